@@ -39,6 +39,9 @@ pub kept_front : (all now new : Option (List ℕ)) (bytes buf : List ℕ) (n : �
 kept_front None now new bytes buf n kept takes = tt
 kept_front (Some all) now new bytes buf n kept takes =
     let P : Option (List ℕ) → Type 0 = λ m. Takes m new n buf in
-    let took : Takes (Some kept.0) new n buf = subst P kept.1 takes in
-    (bytes ++ take n kept.0, drop n kept.0,
-    kept.2 ∙ ap (λ (t : List ℕ). bytes ++ t) (sym (take-append-drop n kept.0)) ∙ sym (append_assoc bytes (take n kept.0) (drop n kept.0)), took.2)
+    let took : Takes (Some kept.0) new n buf = subst P kept.1 takes in (
+      bytes ++ take n kept.0,
+      drop n kept.0,
+      kept.2 ∙ ap (λ (t : List ℕ). bytes ++ t) (sym (take-append-drop n kept.0)) ∙ sym (append_assoc bytes (take n kept.0) (drop n kept.0)),
+      took.2,
+    )

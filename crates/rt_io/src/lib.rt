@@ -6,6 +6,8 @@ mod memory;
 mod sink;
 mod source;
 mod standard;
+#[cfg(test)]
+mod tests;
 mod whole;
 
 pub use memory::{MemSink, MemSource};
