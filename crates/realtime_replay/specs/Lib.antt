@@ -1,0 +1,4 @@
+pub mod Messages
+pub mod Printed
+pub mod Trees
+pub mod Words

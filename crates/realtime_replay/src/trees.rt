@@ -1,0 +1,68 @@
+//! Small JSON trees.
+ghost use Rattle.std.specs.Prelude.{◌≡◌, ◌++◌, ◌∷◌, [], IfOk, OnOk};
+ghost use Rattle.std.specs.Fmt.{decimal};
+ghost use Rattle.std.specs.Str.{bytes_eq};
+ghost use Rattle.rt_json.specs.Written.{written};
+ghost use Rattle.realtime_replay.specs.Trees.{named};
+
+use rt_json::{Json, Member, write};
+use rt_value::{List, Text};
+use std::alloc::{AllocError, Global};
+
+pub fn text_tree(alloc: Global, text: &str) -> Result<Json, AllocError>
+    ensures { IfOk result (λ tree. tree ≡ Json.Text text.now) }
+{
+    Ok(Json::Text(Text::new(String::from_str(alloc, text)?)))
+}
+
+pub fn number_tree(alloc: Global, number: u32) -> Result<Json, AllocError>
+    ensures { IfOk result (λ tree. tree ≡ Json.Num (decimal number)) }
+{
+    Ok(Json::Num(Text::new(format!(in alloc; "{number}")?)))
+}
+
+pub fn list_tree(items: Vec<Json>) -> Json
+    ensures { result ≡ Json.List items.items }
+{
+    Json::List(List::new(items))
+}
+
+pub fn object_tree(members: Vec<Member>) -> Json
+    ensures { result ≡ Json.Object members.items }
+{
+    Json::Object(List::new(members))
+}
+
+/// Puts a member of this name and value behind the others.
+pub fn put(
+    alloc: Global,
+    members: &mut Vec<Member>,
+    name: &str,
+    value: Json,
+) -> Result<(), AllocError>
+    ensures { OnOk result (members.new.items ≡ members.old.items ++ named name.now value ∷ []) }
+{
+    let name = Text::new(String::from_str(alloc, name)?);
+    members.push(Member { name, value })?;
+    Ok(())
+}
+
+/// Puts a member whose value is a text behind the others.
+pub fn put_text(
+    alloc: Global,
+    members: &mut Vec<Member>,
+    name: &str,
+    text: &str,
+) -> Result<(), AllocError>
+    ensures { OnOk result (members.new.items ≡ members.old.items ++ named name.now (Json.Text text.now) ∷ []) }
+{
+    let value = text_tree(alloc, text)?;
+    put(alloc, members, name, value)
+}
+
+/// Whether two trees are spelled alike.
+pub fn are_alike(alloc: Global, a: &Json, b: &Json) -> Result<bool, AllocError>
+    ensures { IfOk result (λ alike. alike ≡ bytes_eq (written a.now) (written b.now)) }
+{
+    Ok(write(alloc, a)?.get() == write(alloc, b)?.get())
+}
