@@ -1,0 +1,6 @@
+use Rattle.std.proofs.Common.{rules}
+use Rattle.rt_wal.proofs.parsing.tree_of.Goals as goal
+
+-- a tree of the line would have been answered
+pub returns-in-Err-Bad : goal.returns-in-Err-Bad
+returns-in-Err-Bad c = λ tree h. rw c.in-Err-Bad.field-0-is at (c.in-Err-Bad.ensures.only tree h)

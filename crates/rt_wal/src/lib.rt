@@ -1,0 +1,11 @@
+//! The records of a wal2json stream, format 2, and the cut of the stream into batches.
+#![tactic(auto)]
+
+mod faults;
+mod parsing;
+mod records;
+mod shapes;
+
+pub use faults::{RecordWhy, WalFault};
+pub use parsing::parse_record;
+pub use records::{Action, Field, Record};
