@@ -1,7 +1,17 @@
 -- The longest front of a text that is a piece.
-use Rattle.std.specs.Prelude.{◌≡◌, ℕ, ◌<◌, ◌≤◌, List, length, take, Option, None, Some}
+use Rattle.std.specs.Prelude.{◌≡◌, ℕ, ◌<◌, ◌≤◌, Bool, true, false, IsTrue, List, slice_index, length, take, Option, None, Some}
 use Rattle.rt_sql.specs.declared.piece.Piece.{Piece}
-use Rattle.rt_sql.specs.Piece.{IsPiece, in_quotes}
+use Rattle.rt_sql.specs.Piece.{IsPiece, is_sign, in_quotes}
+
+-- the first n bytes may pass a test, and the next one may fail it; R is what the test may answer
+pub record IsRun (R : ℕ → Bool → Type 0) (text : List ℕ) (n : ℕ) : Type 0 where
+  pub within : n ≤ length text
+  pub passed : (k : ℕ) → k < n → R (slice_index text k) true
+  pub ended : n < length text → R (slice_index text n) false
+
+-- the first n bytes are a sign
+abbrev pub BeginsWithSign : List ℕ → ℕ → Type 0
+BeginsWithSign text n = (n ≤ length text) × IsTrue (is_sign (take n text))
 
 -- the bytes stand in quotes
 abbrev pub IsQuoted : ℕ → List ℕ → Type 0

@@ -1,6 +1,7 @@
-ghost use Rattle.std.specs.Prelude.{◌≡◌, ℕ, ◌<◌, ◌≤◌, List, length};
-ghost use Rattle.rt_sql.specs.Piece.{IsPiece, is_blank, is_line_feed, begins_word, continues_word, is_short_sign, is_double_sign};
-ghost use Rattle.rt_sql.specs.Front.{IsLongestFront, IsQuoted, LongestPiece};
+ghost use Rattle.std.specs.Prelude.{◌≡◌, ◌↔◌, not, IsTrue};
+ghost use Rattle.std.specs.Char.{is_ascii_digit};
+ghost use Rattle.rt_sql.specs.Piece.{IsPiece, is_blank, is_line_feed, begins_word, continues_word};
+ghost use Rattle.rt_sql.specs.Front.{BeginsWithSign, IsRun, IsLongestFront, IsQuoted, LongestPiece};
 
 use crate::lexeme::TokenKind;
 
@@ -47,10 +48,23 @@ fn length_of(piece: Piece, text: &[u8]) -> usize
         Piece::Comment => comment_length(text),
         Piece::Token(TokenKind::Word) => word_length(text),
         Piece::Token(TokenKind::Quoted) => quoted_name_length(text),
-        Piece::Token(TokenKind::Text) => in_quotes_length(text, b'\''),
+        Piece::Token(TokenKind::Text) => text_length(text),
         Piece::Token(TokenKind::Number) => number_length(text),
         Piece::Token(TokenKind::Sign) => sign_length(text),
     }
+}
+
+/// How many bytes from the front on pass a test.
+fn run_length<F: Fn(u8) -> bool + Drop>(text: &[u8], passes: F) -> usize
+    requires { F.IsAlwaysCallable passes }
+    ensures { IsRun (F.post passes) text.now result }
+{
+    for (i, byte) in text.iter().enumerate() {
+        if !passes(*byte) {
+            return i;
+        }
+    }
+    text.len()
 }
 
 fn is_blank(byte: u8) -> bool
@@ -62,14 +76,20 @@ fn is_blank(byte: u8) -> bool
 fn blanks_length(text: &[u8]) -> usize
     ensures { IsLongestFront (IsPiece Piece.Blanks) text.now result }
 {
-    text.iter().take_while(|byte| is_blank(**byte)).count()
+    run_length(text, is_blank)
+}
+
+fn is_in_line(byte: u8) -> bool
+    ensures { result ≡ not (is_line_feed byte) }
+{
+    byte != b'\n'
 }
 
 fn comment_length(text: &[u8]) -> usize
     ensures { IsLongestFront (IsPiece Piece.Comment) text.now result }
 {
     match text {
-        [b'-', b'-', inner @ ..] => 2 + inner.iter().take_while(|byte| **byte != b'\n').count(),
+        [b'-', b'-', inner @ ..] => 2 + run_length(inner, is_in_line),
         _ => 0,
     }
 }
@@ -90,55 +110,72 @@ fn word_length(text: &[u8]) -> usize
     ensures { IsLongestFront (IsPiece (Piece.Token TokenKind.Word)) text.now result }
 {
     match text {
-        [first, others @ ..] if begins_word(*first) => {
-            1 + others.iter().take_while(|byte| continues_word(**byte)).count()
-        }
+        [first, others @ ..] if begins_word(*first) => 1 + run_length(others, continues_word),
         _ => 0,
     }
 }
 
-fn quoted_name_length(text: &[u8]) -> usize
-    ensures { IsLongestFront (IsPiece (Piece.Token TokenKind.Quoted)) text.now result }
+fn is_digit(byte: u8) -> bool
+    ensures { result ≡ is_ascii_digit byte }
 {
-    // Two quotes alone would be an empty name.
-    match in_quotes_length(text, b'"') {
-        length @ 3.. => length,
-        _ => 0,
-    }
+    byte.is_ascii_digit()
 }
 
 fn number_length(text: &[u8]) -> usize
     ensures { IsLongestFront (IsPiece (Piece.Token TokenKind.Number)) text.now result }
 {
-    text.iter().take_while(|byte| byte.is_ascii_digit()).count()
+    run_length(text, is_digit)
 }
 
-fn is_short_sign(byte: u8) -> bool
-    ensures { result ≡ is_short_sign byte }
+fn quoted_name_length(text: &[u8]) -> usize
+    ensures { IsLongestFront (IsPiece (Piece.Token TokenKind.Quoted)) text.now result }
+{
+    let length = in_quotes_length(text, b'"');
+    // Two quotes alone would be an empty name.
+    if length > 2 { length } else { 0 }
+}
+
+fn text_length(text: &[u8]) -> usize
+    ensures { IsLongestFront (IsPiece (Piece.Token TokenKind.Text)) text.now result }
+{
+    in_quotes_length(text, b'\'')
+}
+
+fn begins_with_long_sign(text: &[u8]) -> bool
+    ensures { IsTrue result ↔ BeginsWithSign text.now 3 }
+{
+    matches!(text, [b'-', b'>', b'>', ..])
+}
+
+fn begins_with_double_sign(text: &[u8]) -> bool
+    ensures { IsTrue result ↔ BeginsWithSign text.now 2 }
 {
     matches!(
-        byte,
-        b'(' | b')' | b',' | b';' | b'.' | b'=' | b'<' | b'>' | b'*' | b'[' | b']' | b'-'
+        text,
+        [b'<', b'>', ..] | [b'!' | b'<' | b'>', b'=', ..] | [b':', b':', ..]
     )
 }
 
-fn is_double_sign(first: u8, second: u8) -> bool
-    ensures { result ≡ is_double_sign first second }
+fn begins_with_short_sign(text: &[u8]) -> bool
+    ensures { IsTrue result ↔ BeginsWithSign text.now 1 }
 {
     matches!(
-        (first, second),
-        (b'<', b'>') | (b'!' | b'<' | b'>', b'=') | (b':', b':')
+        text,
+        [b'(' | b')' | b',' | b';' | b'.' | b'=' | b'<' | b'>' | b'*' | b'[' | b']' | b'-', ..]
     )
 }
 
 fn sign_length(text: &[u8]) -> usize
     ensures { IsLongestFront (IsPiece (Piece.Token TokenKind.Sign)) text.now result }
 {
-    match text {
-        [b'-', b'>', b'>', ..] => 3,
-        [first, second, ..] if is_double_sign(*first, *second) => 2,
-        [first, ..] if is_short_sign(*first) => 1,
-        _ => 0,
+    if begins_with_long_sign(text) {
+        3
+    } else if begins_with_double_sign(text) {
+        2
+    } else if begins_with_short_sign(text) {
+        1
+    } else {
+        0
     }
 }
 
@@ -155,12 +192,15 @@ fn in_quotes_length(text: &[u8], quote: u8) -> usize
         match rest {
             [] => return longest,
             [first, others @ ..] if *first != quote => rest = others,
-            [_, second, others @ ..] if *second == quote => {
-                // The first of a doubled quote ends the longest so far, unless a further quote follows.
+            [_] => return text.len(),
+            [_, second, others @ ..] => {
+                // This quote may be the closing one. It is, unless another follows.
                 longest = text.len() - rest.len() + 1;
+                if *second != quote {
+                    return longest;
+                }
                 rest = others;
             }
-            _ => return text.len() - rest.len() + 1,
         }
     }
 }

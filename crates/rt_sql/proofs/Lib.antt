@@ -1,0 +1,4 @@
+pub mod Fronts
+pub mod Longest
+pub mod Quotes
+pub mod Runs
