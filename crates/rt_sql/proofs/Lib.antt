@@ -1,4 +1,6 @@
 pub mod Fronts
+pub mod KindOf
 pub mod Longest
 pub mod Quotes
 pub mod Runs
+pub mod Steps
