@@ -21,11 +21,11 @@ kind_of a b =
     cond (a == 45 && b == 45) Comment (Token Sign))))))
 
 -- what holds of each of some bytes
-abbrev Each : (ℕ → Type 0) → List ℕ → Type 0
+abbrev pub Each : (ℕ → Type 0) → List ℕ → Type 0
 Each P [] = Unit {0}
 Each P (x ∷ xs) = P x × Each P xs
 
-at_each : (P : ℕ → Type 0) (xs : List ℕ) (a : ℕ) → Each P xs → list_any (λ s. s == a) xs ≡ true → P a
+pub at_each : (P : ℕ → Type 0) (xs : List ℕ) (a : ℕ) → Each P xs → list_any (λ s. s == a) xs ≡ true → P a
 at_each P [] a each any = absurd (cc (any))
 at_each P (x ∷ xs) a (here, others) any =
     elim (or_cases (x == a) (list_any (λ s. s == a) xs) any) [

@@ -1,3 +1,5 @@
+pub mod Borders
+pub mod Extends
 pub mod Fronts
 pub mod KindOf
 pub mod Longest
