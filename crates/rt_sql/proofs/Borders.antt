@@ -1,6 +1,6 @@
 -- Tokens stand between borders of characters.
 use Rattle.std.proofs.Common.{◌≡◌, ℕ, zero, suc, ◌+◌, ◌-◌, ◌<◌, ◌≤◌, ◌==◌, Bool, true, false, not, ◌||◌, ◌&&◌, List, [], ◌∷◌, ◌++◌, length, get_or, take, drop, refl, sym, ap, subst, ◌∙◌, inl, inr, ◌⊎◌, arith, length-take, length-drop, length-append, lit<}
-use Rattle.std.specs.Prelude.{slice_range, codes, IsUtf8, IsCharBoundary, All}
+use Rattle.std.specs.Prelude.{slice_range, codes, IsUtf8, IsCharBoundary, All, Result, Ok, Err, IfOk}
 use Rattle.std.specs.List.{list_all, list_any}
 use Rattle.std.specs.Char.{is_ascii_digit}
 use Rattle.std.proofs.lemmas.Bool.{cases_lt, cases_eq, and_parts, and_from, ne_eqb}
@@ -145,3 +145,8 @@ tokens_stand text tokens utf8 cut = each_token utf8 (IsCharBoundary-start text u
 
 pub fault_stands : (text : List ℕ) (at : ℕ) → IsUtf8 text → IsUncut text at → IsCharBoundary text at
 fault_stands text at utf8 uncut = border utf8 (IsCharBoundary-start text utf8) uncut.before.1
+
+pub each_of : {V F : Type 0} (items : V → List token.Token) (text bytes : List ℕ) → IsUtf8 text → bytes ≡ text → (r : Result V F) → IfOk r (λ v. IsCut bytes (items v))
+    → IfOk r (λ v. All (IsTokenOf text) (items v))
+each_of items text bytes utf8 same (Ok v) cut = tokens_stand text (items v) utf8 (subst (λ (xs : List ℕ). IsCut xs (items v)) same cut)
+each_of items text bytes utf8 same (Err e) cut = tt

@@ -13,7 +13,7 @@ use Rattle.rt_sql.specs.Cut.{IsLongest, NoneBegins, Leads, IsCut, IsUncut}
 use Rattle.rt_sql.proofs.Longest.{no_empty_piece}
 use Rattle.rt_sql.proofs.KindOf.{one_kind}
 
-no_piece_back : (text : List ℕ) (piece : Piece) (from to : ℕ) → to ≤ from → IsPiece piece (slice_range text from to) → ⊥
+pub no_piece_back : (text : List ℕ) (piece : Piece) (from to : ℕ) → to ≤ from → IsPiece piece (slice_range text from to) → ⊥
 no_piece_back text piece from to le written =
     let none : to - from ≡ 0 = omega arith in
     no_empty_piece piece (subst (λ (n : ℕ). IsPiece piece (take n (drop from text))) none written)
