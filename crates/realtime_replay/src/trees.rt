@@ -1,11 +1,9 @@
 //! Small JSON trees.
 ghost use Rattle.std.specs.Prelude.{◌≡◌, ◌++◌, ◌∷◌, [], IfOk, OnOk};
 ghost use Rattle.std.specs.Fmt.{decimal};
-ghost use Rattle.std.specs.Str.{bytes_eq};
-ghost use Rattle.rt_json.specs.Written.{written};
 ghost use Rattle.realtime_replay.specs.Trees.{named};
 
-use rt_json::{Json, Member, write};
+use rt_json::{Json, Member};
 use rt_value::{List, Text};
 use std::alloc::{AllocError, Global};
 
@@ -58,11 +56,4 @@ pub fn put_text(
 {
     let value = text_tree(alloc, text)?;
     put(alloc, members, name, value)
-}
-
-/// Whether two trees are spelled alike.
-pub fn are_alike(alloc: Global, a: &Json, b: &Json) -> Result<bool, AllocError>
-    ensures { IfOk result (λ alike. alike ≡ bytes_eq (written a.now) (written b.now)) }
-{
-    Ok(write(alloc, a)?.get() == write(alloc, b)?.get())
 }

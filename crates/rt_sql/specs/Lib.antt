@@ -1,0 +1,5 @@
+pub mod Answers
+pub mod Cut
+pub mod Front
+pub mod Lexeme
+pub mod Piece
