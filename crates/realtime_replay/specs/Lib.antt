@@ -1,3 +1,5 @@
+pub mod Answers
+pub mod Faults
 pub mod Messages
 pub mod Printed
 pub mod Trees

@@ -1,5 +1,5 @@
 use crate::cursor::{Cursor, words_of};
-use crate::form::FormFault;
+use crate::fault::FormFault;
 use rt_value::{List, Text};
 use std::alloc::{AllocError, Global};
 
@@ -129,7 +129,11 @@ fn column_in(alloc: Global, words: &ColumnWords<'_>) -> Result<Column, AllocErro
     })
 }
 
-fn catalogue_in(alloc: Global, statements: &Statements<'_>, key: usize) -> Result<Catalogue, AllocError> {
+fn catalogue_in(
+    alloc: Global,
+    statements: &Statements<'_>,
+    key: usize,
+) -> Result<Catalogue, AllocError> {
     let mut columns = Vec::new(alloc);
     for words in &statements.columns {
         columns.push(column_in(alloc, words)?)?;

@@ -1,4 +1,4 @@
-use crate::form::FormFault;
+use crate::fault::FormFault;
 use rt_sql::{SqlFault, Token, TokenKind, tokens};
 use rt_value::Text;
 use std::alloc::Global;

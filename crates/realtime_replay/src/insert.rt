@@ -1,5 +1,5 @@
 use crate::catalogue::{Column, ColumnType, Table};
-use crate::form::FormFault;
+use crate::fault::FormFault;
 use crate::join::tree_of;
 use crate::shapes::{elements, is_text, members_named};
 use rt_json::Json;
@@ -80,11 +80,7 @@ fn values_of(alloc: Global, fields: List<Field>) -> Result<List<Json>, AllocErro
 
 /// The row that a record inserts into the table, a value for each column. `NotBuilt` where it is no insert of the built
 /// form: the members in their order, each value of its column's type, no commit time.
-pub fn inserted_row(
-    alloc: Global,
-    record: &str,
-    table: &Table,
-) -> Result<List<Json>, FormFault> {
+pub fn inserted_row(alloc: Global, record: &str, table: &Table) -> Result<List<Json>, FormFault> {
     if record.len() > MOST_RECORD_BYTES || !is_insert(&tree_of(alloc, record)?, table) {
         return Err(FormFault::NotBuilt);
     }

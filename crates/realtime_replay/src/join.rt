@@ -1,4 +1,4 @@
-use crate::form::FormFault;
+use crate::fault::FormFault;
 use crate::shapes::{elements, is_text, members_named, text_of};
 use rt_json::{Json, JsonFault, read};
 use rt_value::Text;
@@ -58,9 +58,10 @@ fn is_payload(tree: &Json, table: &str) -> bool {
 
 /// The texts of a join: its topic, and what the client calls the frame.
 fn texts_of<'a>(tree: &'a Json, table: &str) -> Option<(&'a Text, &'a Text)> {
-    let Some([topic, event, payload, reference]) =
-        members_named(tree, &["topic", "event", "payload", "ref"])
-    else {
+    let Some([topic, event, payload, reference]) = members_named(
+        tree,
+        &["topic", "event", "payload", "ref"],
+    ) else {
         return None;
     };
     if is_text(&event.value, "phx_join") && is_payload(&payload.value, table) {

@@ -1,5 +1,5 @@
 use crate::catalogue::Catalogue;
-use crate::form::FormFault;
+use crate::fault::FormFault;
 use crate::insert::inserted_row;
 use crate::join::{Join, join_of, tree_of};
 use crate::numbers::number_of;

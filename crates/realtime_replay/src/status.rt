@@ -1,3 +1,8 @@
+ghost use Rattle.std.specs.Prelude.{◌≡◌};
+ghost use Rattle.realtime_replay.specs.Faults.{status_of};
+
+use crate::fault::RunFault;
+
 /// How a run ended. The number is the program's exit status.
 #[derive(Clone, Copy, Debug, PartialEq, Eq)]
 pub enum Status {
@@ -17,19 +22,32 @@ pub enum Status {
     NotBuilt = 13,
 }
 
+/// The status of a run that a fault ended.
+pub fn status_of(fault: RunFault) -> Status
+    ensures { result ≡ status_of fault }
+{
+    match fault {
+        RunFault::NoMemory => Status::NoMemory,
+        RunFault::ReadFault => Status::ReadFault,
+        RunFault::TooLong => Status::TooLong,
+        RunFault::NotBuilt => Status::NotBuilt,
+        RunFault::WriteFault => Status::WriteFault,
+    }
+}
+
 impl Status {
     /// The line that says it on the error stream, none where the run ended well.
-    pub fn line(self) -> &'static [u8] {
+    pub fn line(self) -> &'static str {
         match self {
-            Status::Ok => b"",
+            Status::Ok => "",
             Status::Usage => {
-                b"usage: realtime-replay replay|audit CATALOGUE SCRIPT, check CATALOGUE, gen N\n"
+                "usage: realtime-replay replay|audit CATALOGUE SCRIPT, check CATALOGUE, gen N\n"
             }
-            Status::ReadFault => b"read fault\n",
-            Status::WriteFault => b"write fault\n",
-            Status::NoMemory => b"out of memory\n",
-            Status::TooLong => b"too long\n",
-            Status::NotBuilt => b"not built\n",
+            Status::ReadFault => "read fault\n",
+            Status::WriteFault => "write fault\n",
+            Status::NoMemory => "out of memory\n",
+            Status::TooLong => "too long\n",
+            Status::NotBuilt => "not built\n",
         }
     }
 }

@@ -1,0 +1,105 @@
+use rt_io::{ReadAllFault, WriteFault};
+use std::alloc::{AllocError, AllocFailed};
+use thiserror::Error;
+
+/// Why a catalogue or a script isn't taken.
+#[derive(Clone, Copy, Debug, Error)]
+pub enum FormFault {
+    #[error("out of memory")]
+    NoMemory,
+    /// It isn't of the form that is built.
+    #[error("not built")]
+    NotBuilt,
+}
+
+impl From<AllocError> for FormFault {
+    ghost use Rattle.std.specs.Prelude.{◌≡◌};
+    ghost use Rattle.realtime_replay.specs.declared.fault.FormFault.TheVariants.{NoMemory};
+
+    ghost from_gives = { λ _ e. e ≡ NoMemory };
+
+    fn from(_: AllocError) -> FormFault {
+        FormFault::NoMemory
+    }
+}
+
+impl<T: Drop> From<AllocFailed<T>> for FormFault {
+    ghost use Rattle.std.specs.Prelude.{◌≡◌};
+    ghost use Rattle.realtime_replay.specs.declared.fault.FormFault.TheVariants.{NoMemory};
+
+    ghost from_gives = { λ _ e. e ≡ NoMemory };
+
+    fn from(_: AllocFailed<T>) -> FormFault {
+        FormFault::NoMemory
+    }
+}
+
+/// What ends a run.
+#[derive(Clone, Copy, Debug, Error)]
+pub enum RunFault {
+    #[error("out of memory")]
+    NoMemory,
+    /// A source failed.
+    #[error("read fault")]
+    ReadFault,
+    /// A source has more bytes than are read.
+    #[error("too long")]
+    TooLong,
+    /// The catalogue or the script isn't of the form that is built.
+    #[error("not built")]
+    NotBuilt,
+    /// The output failed.
+    #[error("write fault")]
+    WriteFault,
+}
+
+impl From<AllocError> for RunFault {
+    ghost use Rattle.std.specs.Prelude.{◌≡◌};
+    ghost use Rattle.realtime_replay.specs.declared.fault.RunFault.TheVariants.{NoMemory};
+
+    ghost from_gives = { λ _ fault. fault ≡ NoMemory };
+
+    fn from(_: AllocError) -> RunFault {
+        RunFault::NoMemory
+    }
+}
+
+impl From<FormFault> for RunFault {
+    ghost use Rattle.std.specs.Prelude.{◌≡◌};
+    ghost use Rattle.realtime_replay.specs.Faults.{of_form};
+
+    ghost from_gives = { λ form fault. fault ≡ of_form form };
+
+    fn from(fault: FormFault) -> RunFault {
+        match fault {
+            FormFault::NoMemory => RunFault::NoMemory,
+            FormFault::NotBuilt => RunFault::NotBuilt,
+        }
+    }
+}
+
+impl From<ReadAllFault> for RunFault {
+    ghost use Rattle.std.specs.Prelude.{◌≡◌};
+    ghost use Rattle.realtime_replay.specs.Faults.{of_reading};
+
+    ghost from_gives = { λ reading fault. fault ≡ of_reading reading };
+
+    fn from(fault: ReadAllFault) -> RunFault {
+        match fault {
+            ReadAllFault::NoMemory => RunFault::NoMemory,
+            ReadAllFault::ReadFault => RunFault::ReadFault,
+            ReadAllFault::TooLong { .. } => RunFault::TooLong,
+        }
+    }
+}
+
+impl From<WriteFault> for RunFault {
+    ghost use Rattle.std.specs.Prelude.{◌≡◌};
+    ghost use Rattle.realtime_replay.specs.declared.fault.RunFault.TheVariants as fault;
+
+    ghost from_gives = { λ _ e. e ≡ fault.WriteFault };
+
+    fn from(_: WriteFault) -> RunFault {
+        RunFault::WriteFault
+    }
+}
