@@ -30,10 +30,11 @@ found_long text at found le long = record {
   within = omega (arith, long.within, len);
   written = subst (λ (n : ℕ). IsPiece found.0 (take n (drop at text))) past (subst (λ (xs : List ℕ). IsPiece found.0 (take found.1 xs)) (take_rest text at) long.written);
   longest = λ other later lt short written.
-      long.longest other (later - at) (omega arith) (omega (arith, len)) (subst (λ (xs : List ℕ). IsPiece other (take (later - at) xs)) (sym (take_rest text at)) written)
+      long.longest other (later - at) (omega arith) (omega (arith, len)) (subst (λ (xs : List ℕ). IsPiece other (take (later - at) xs)) (sym (take_rest text at)) written);
 } where
   len : length (rest text at) ≡ length text - at
   len = omega (arith, length-take (length text - at) (drop at text), length-drop at text)
+
   past : found.1 ≡ at + found.1 - at
   past = omega arith
 
@@ -58,10 +59,10 @@ uncut_here text tokens at cut lt none = record {
   before = (tokens, cut.way);
   within = lt;
   none = λ piece to le written. elim (cases_lt to at) [
-    inl back ↦ no_piece_back text piece at to (omega arith) written
+    | inl back ↦ no_piece_back text piece at to (omega arith) written
     | inr on ↦ none piece (to - at) (omega (arith, length-take (length text - at) (drop at text), length-drop at text))
         (subst (λ (xs : List ℕ). IsPiece piece (take (to - at) xs)) (sym (take_rest text at)) written)
-    ]
+  ];
 }
 
 pub cut_at_end : (text : List ℕ) (tokens : List token.Token) (at : ℕ) → IsCutTo text tokens at → length text ≤ at → IsCut text tokens

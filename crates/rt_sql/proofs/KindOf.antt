@@ -29,8 +29,8 @@ pub at_each : (P : ℕ → Type 0) (xs : List ℕ) (a : ℕ) → Each P xs → l
 at_each P [] a each any = absurd (cc (any))
 at_each P (x ∷ xs) a (here, others) any =
     elim (or_cases (x == a) (list_any (λ s. s == a) xs) any) [
-    inl is ↦ subst P (eqb-true x a is) here
-    | inr among ↦ at_each P xs a others among
+      | inl is ↦ subst P (eqb-true x a is) here
+      | inr among ↦ at_each P xs a others among
     ]
 
 word_is_no_blank : (b : ℕ) → begins_word b ≡ true → is_blank b ≡ false
@@ -57,14 +57,14 @@ of_first a b x at same = subst (λ (y : ℕ). kind_of y b ≡ Token Sign) (sym (
 double_kind : (a b : ℕ) → is_double_sign a b ≡ true → kind_of a b ≡ Token Sign
 double_kind a b double =
     elim (or_cases ((a == 60 && b == 62) || ((a == 33 || a == 60 || a == 62) && b == 61)) (a == 58 && b == 58) double) [
-    inl early ↦ elim (or_cases (a == 60 && b == 62) ((a == 33 || a == 60 || a == 62) && b == 61) early) [
-      inl unequal ↦ of_first a b 60 refl (and_parts (a == 60) (b == 62) unequal).0
-      | inr before ↦ elim (or_cases (a == 33 || a == 60) (a == 62) (and_parts (a == 33 || a == 60 || a == 62) (b == 61) before).0) [
-        inl low ↦ elim (or_cases (a == 33) (a == 60) low) [ inl not ↦ of_first a b 33 refl not | inr less ↦ of_first a b 60 refl less ]
-        | inr greater ↦ of_first a b 62 refl greater
+      | inl early ↦ elim (or_cases (a == 60 && b == 62) ((a == 33 || a == 60 || a == 62) && b == 61) early) [
+        | inl unequal ↦ of_first a b 60 refl (and_parts (a == 60) (b == 62) unequal).0
+        | inr before ↦ elim (or_cases (a == 33 || a == 60) (a == 62) (and_parts (a == 33 || a == 60 || a == 62) (b == 61) before).0) [
+          | inl low ↦ elim (or_cases (a == 33) (a == 60) low) [ inl not ↦ of_first a b 33 refl not | inr less ↦ of_first a b 60 refl less ]
+          | inr greater ↦ of_first a b 62 refl greater
         ]
       ]
-    | inr colons ↦ of_first a b 58 refl (and_parts (a == 58) (b == 58) colons).0
+      | inr colons ↦ of_first a b 58 refl (and_parts (a == 58) (b == 58) colons).0
     ]
 
 long_kind : (a b c : ℕ) → is_long_sign a b c ≡ true → kind_of a b ≡ Token Sign

@@ -28,15 +28,15 @@ read_doubled : (quote : ℕ) (inner : List ℕ) → within_quotes quote (closing
 read_doubled quote [] = read_quote quote []
 read_doubled quote (b ∷ inner) =
     elim (cases_eq b quote) [
-    inl is ↦
-      let written : closing quote (doubled quote (b ∷ inner)) ≡ quote ∷ quote ∷ closing quote (doubled quote inner) =
+      | inl is ↦
+          let written : closing quote (doubled quote (b ∷ inner)) ≡ quote ∷ quote ∷ closing quote (doubled quote inner) =
           subst (λ (x : ℕ). closing quote (doubled quote (x ∷ inner)) ≡ quote ∷ quote ∷ closing quote (doubled quote inner)) (sym is) (ap (closing quote) (doubled_quote quote inner)) in
-      let once : within_quotes quote (quote ∷ quote ∷ closing quote (doubled quote inner)) ≡ quote ∷ inner =
+          let once : within_quotes quote (quote ∷ quote ∷ closing quote (doubled quote inner)) ≡ quote ∷ inner =
           read_quote quote (quote ∷ closing quote (doubled quote inner)) ∙ ap (λ (xs : List ℕ). quote ∷ xs) (read_doubled quote inner) in
-      ap (within_quotes quote) written ∙ once ∙ ap (λ (x : ℕ). x ∷ inner) (sym is)
-    | inr isnt ↦
-      ap (within_quotes quote) (ap (closing quote) (doubled_plain quote b inner isnt)) ∙ read_plain quote b (closing quote (doubled quote inner)) isnt
-      ∙ ap (λ (xs : List ℕ). b ∷ xs) (read_doubled quote inner)
+          ap (within_quotes quote) written ∙ once ∙ ap (λ (x : ℕ). x ∷ inner) (sym is)
+      | inr isnt ↦
+          ap (within_quotes quote) (ap (closing quote) (doubled_plain quote b inner isnt)) ∙ read_plain quote b (closing quote (doubled quote inner)) isnt
+          ∙ ap (λ (xs : List ℕ). b ∷ xs) (read_doubled quote inner)
     ]
 
 -- what was put in quotes is what they hold
@@ -68,7 +68,7 @@ split_here quote inner =
     record {
       behind = inner;
       whole = ap (λ (n : ℕ). take n xs ++ quote ∷ inner) (sym (place_here quote (quote ∷ doubled quote inner)));
-      after = ap (λ (n : ℕ). drop (n + 1) xs) (place_here quote (quote ∷ doubled quote inner))
+      after = ap (λ (n : ℕ). drop (n + 1) xs) (place_here quote (quote ∷ doubled quote inner));
     }
 
 split_further : (quote b : ℕ) (inner xs : List ℕ) → (b ≡ quote → ⊥) → IsSplit quote inner xs → IsSplit quote (b ∷ inner) (b ∷ xs)
@@ -78,35 +78,35 @@ split_further quote b inner xs ne split =
     record {
       behind = split.behind;
       whole = ap (λ (ys : List ℕ). b ∷ ys) split.whole ∙ ap (λ (k : ℕ). take k (b ∷ xs) ++ quote ∷ split.behind) (sym (place_further quote b xs ne));
-      after = ap (λ (k : ℕ). drop (k + 1) (b ∷ xs)) (place_further quote b xs ne) ∙ ap (λ (k : ℕ). drop k (b ∷ xs)) next ∙ split.after
+      after = ap (λ (k : ℕ). drop (k + 1) (b ∷ xs)) (place_further quote b xs ne) ∙ ap (λ (k : ℕ). drop k (b ∷ xs)) next ∙ split.after;
     }
 
 split_doubled : (quote : ℕ) (tail : List ℕ) → position_or_len (at_quote quote) (doubled quote tail) < length (doubled quote tail) → IsSplit quote tail (doubled quote tail)
 split_doubled quote [] lt = absurd (omega arith)
 split_doubled quote (b ∷ bs) lt =
     elim (cases_eq b quote) [
-    inl is ↦
-      let P : ℕ → Type 0 = λ x. IsSplit quote (x ∷ bs) (doubled quote (x ∷ bs)) in
-      subst P (sym is) (subst (IsSplit quote (quote ∷ bs)) (sym (doubled_quote quote bs)) (split_here quote bs))
-    | inr isnt ↦
-      let e : doubled quote (b ∷ bs) ≡ b ∷ doubled quote bs = doubled_plain quote b bs isnt in
-      let short : position_or_len (at_quote quote) (doubled quote bs) < length (doubled quote bs) =
+      | inl is ↦
+          let P : ℕ → Type 0 = λ x. IsSplit quote (x ∷ bs) (doubled quote (x ∷ bs)) in
+          subst P (sym is) (subst (IsSplit quote (quote ∷ bs)) (sym (doubled_quote quote bs)) (split_here quote bs))
+      | inr isnt ↦
+          let e : doubled quote (b ∷ bs) ≡ b ∷ doubled quote bs = doubled_plain quote b bs isnt in
+          let short : position_or_len (at_quote quote) (doubled quote bs) < length (doubled quote bs) =
           omega (arith, lt, ap length e, ap (position_or_len (at_quote quote)) e, place_further quote b (doubled quote bs) isnt) in
-      subst (IsSplit quote (b ∷ bs)) (sym e) (split_further quote b bs (doubled quote bs) isnt (split_doubled quote bs short))
+          subst (IsSplit quote (b ∷ bs)) (sym e) (split_further quote b bs (doubled quote bs) isnt (split_doubled quote bs short))
     ]
 
 no_quote_left : (quote : ℕ) (tail : List ℕ) → position_or_len (at_quote quote) (doubled quote tail) ≡ length (doubled quote tail) → doubled quote tail ≡ tail
 no_quote_left quote [] e = refl
 no_quote_left quote (b ∷ bs) e =
     elim (cases_eq b quote) [
-    inl is ↦
-      let twice : doubled quote (b ∷ bs) ≡ quote ∷ quote ∷ doubled quote bs = subst (λ (x : ℕ). doubled quote (x ∷ bs) ≡ quote ∷ quote ∷ doubled quote bs) (sym is) (doubled_quote quote bs) in
-      absurd (omega (arith, e, ap length twice, ap (position_or_len (at_quote quote)) twice, place_here quote (quote ∷ doubled quote bs)))
-    | inr isnt ↦
-      let f : doubled quote (b ∷ bs) ≡ b ∷ doubled quote bs = doubled_plain quote b bs isnt in
-      let shorter : position_or_len (at_quote quote) (doubled quote bs) ≡ length (doubled quote bs) =
+      | inl is ↦
+          let twice : doubled quote (b ∷ bs) ≡ quote ∷ quote ∷ doubled quote bs = subst (λ (x : ℕ). doubled quote (x ∷ bs) ≡ quote ∷ quote ∷ doubled quote bs) (sym is) (doubled_quote quote bs) in
+          absurd (omega (arith, e, ap length twice, ap (position_or_len (at_quote quote)) twice, place_here quote (quote ∷ doubled quote bs)))
+      | inr isnt ↦
+          let f : doubled quote (b ∷ bs) ≡ b ∷ doubled quote bs = doubled_plain quote b bs isnt in
+          let shorter : position_or_len (at_quote quote) (doubled quote bs) ≡ length (doubled quote bs) =
           omega (arith, e, ap length f, ap (position_or_len (at_quote quote)) f, place_further quote b (doubled quote bs) isnt) in
-      f ∙ ap (λ (ys : List ℕ). b ∷ ys) (no_quote_left quote bs shorter)
+          f ∙ ap (λ (ys : List ℕ). b ∷ ys) (no_quote_left quote bs shorter)
     ]
 
 -- what was read of quoted bytes, and what is left of them
@@ -120,7 +120,7 @@ nothing_read quote quoted inner rest (tail, e) empty cut = record {
   tail = tail;
   left = cut ∙ subst (λ (xs : List ℕ). take (length xs - 1 - 1) (drop 1 xs) ≡ doubled quote tail) (sym e)
       (take_at (doubled quote tail) (quote ∷ []) (length (in_quotes quote tail) - 1 - 1) (omega (arith, length-append (doubled quote tail) (quote ∷ []))));
-  all = ap (unquoted quote) e ∙ quoted_again quote tail ∙ ap (λ (xs : List ℕ). xs ++ tail) (sym empty)
+  all = ap (unquoted quote) e ∙ quoted_again quote tail ∙ ap (λ (xs : List ℕ). xs ++ tail) (sym empty);
 }
 
 pub part_read : (quote : ℕ) (quoted inner rest before after : List ℕ) → IsReadOf quote quoted inner rest → position_or_len (at_quote quote) rest < length rest
@@ -130,12 +130,15 @@ part_read quote quoted inner rest before after read lt first second =
     let split = split_doubled quote read.tail (subst (λ (xs : List ℕ). position_or_len (at_quote quote) xs < length xs) read.left lt) in
     let front : before ≡ before_first (at_quote quote) (doubled quote read.tail) = first ∙ ap (before_first (at_quote quote)) read.left in
     let follows : after ≡ quote ∷ doubled quote split.behind = second ∙ ap (after_first (at_quote quote)) read.left ∙ split.after in
-    let whole : read.tail ≡ before ++ quote ∷ split.behind = split.whole ∙ ap (λ (xs : List ℕ). xs ++ quote ∷ split.behind) (sym front) in
-    (doubled quote split.behind, follows, record {
-      tail = split.behind;
-      left = refl;
-      all = read.all ∙ ap (λ (xs : List ℕ). inner ++ xs) whole ∙ simp append_assoc
-    })
+    let whole : read.tail ≡ before ++ quote ∷ split.behind = split.whole ∙ ap (λ (xs : List ℕ). xs ++ quote ∷ split.behind) (sym front) in (
+      doubled quote split.behind,
+      follows,
+      record {
+        tail = split.behind;
+        left = refl;
+        all = read.all ∙ ap (λ (xs : List ℕ). inner ++ xs) whole ∙ simp append_assoc;
+      },
+    )
 
 pub all_read : (quote : ℕ) (quoted inner rest : List ℕ) → IsReadOf quote quoted inner rest → position_or_len (at_quote quote) rest ≡ length rest → inner ++ rest ≡ unquoted quote quoted
 all_read quote quoted inner rest read e =

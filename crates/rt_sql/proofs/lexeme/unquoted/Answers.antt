@@ -19,10 +19,12 @@ pub loop-before-preserved : goal.loop-before-preserved
 loop-before-preserved c =
     let split = c.in-Some.ensures.byte c.requires.ascii (λ w o found. found) in
     let inner : string_bytes c.push.new.self ≡ (string_bytes c.loop-before.inner ++ c.in-Some.before.now) ++ c.args.quote ∷ [] =
-        cc (c.in_ok-push.ensures.bytes, c.in_ok-push_str.ensures.bytes, c.in_ok-push.ensures.ascii c.requires.ascii) in
-    (c.range_from-rest.utf8, subst (λ (xs : List ℕ). IsReadOf c.args.quote c.args.quoted.now xs c.range_from-rest.result.now) (sym inner) (
-    part_read_on c.args.quote c.args.quoted.now (string_bytes c.loop-before.inner) c.loop-before.rest.now c.in-Some.before.now c.in-Some.after.now c.range_from-rest.result.now
-    c.loop-before.invariant.1 split.2 split.0 split.1 c.range_from-rest.ensures.value))
+    cc (c.in_ok-push.ensures.bytes, c.in_ok-push_str.ensures.bytes, c.in_ok-push.ensures.ascii c.requires.ascii) in (
+      c.range_from-rest.utf8,
+      subst (λ (xs : List ℕ). IsReadOf c.args.quote c.args.quoted.now xs c.range_from-rest.result.now) (sym inner) (
+          part_read_on c.args.quote c.args.quoted.now (string_bytes c.loop-before.inner) c.loop-before.rest.now c.in-Some.before.now c.in-Some.after.now c.range_from-rest.result.now
+          c.loop-before.invariant.1 split.2 split.0 split.1 c.range_from-rest.ensures.value),
+    )
 
 pub returns : goal.returns
 returns c =
