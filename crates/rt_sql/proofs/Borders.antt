@@ -1,7 +1,7 @@
 -- Tokens stand between borders of characters.
-use Rattle.std.proofs.Common.{◌≡◌, ℕ, zero, suc, ◌+◌, ◌-◌, ◌<◌, ◌≤◌, ◌==◌, Bool, true, false, not, ◌||◌, ◌&&◌, List, [], ◌∷◌, ◌++◌, length, get_or, take, drop, refl, sym, ap, subst, ◌∙◌, inl, inr, ◌⊎◌, arith, length-take, length-drop, length-append, lit<}
+use Rattle.std.proofs.Common.{◌≡◌, ℕ, zero, suc, ◌+◌, ◌-◌, ◌<◌, ◌≤◌, Bool, true, not, List, [], ◌∷◌, ◌++◌, length, get_or, drop, refl, sym, ap, subst, ◌∙◌, inl, inr, arith, length-take, length-drop, length-append, lit<}
 use Rattle.std.specs.Prelude.{slice_range, codes, IsUtf8, IsCharBoundary, All, Result, Ok, Err, IfOk}
-use Rattle.std.specs.List.{list_all, list_any}
+use Rattle.std.specs.List.{list_all}
 use Rattle.std.specs.Char.{is_ascii_digit}
 use Rattle.std.proofs.lemmas.Bool.{cases_lt, cases_eq, and_parts, and_from, ne_eqb}
 use Rattle.std.proofs.lemmas.Bool.Decides.{nat_tests}
@@ -10,17 +10,15 @@ use Rattle.std.proofs.lemmas.List.Sums.{AllPass-from_list_all}
 use Rattle.std.proofs.lemmas.List.Folds.{list_all-append}
 use Rattle.std.proofs.lemmas.List.Edits.{get_or-between, between_more}
 use Rattle.std.proofs.lemmas.Str.{IsCharBoundary-start, IsCharBoundary-end, IsCharBoundary-before_ascii, IsCharBoundary-after_ascii}
-use Rattle.rt_sql.specs.declared.piece.Piece.{Piece}
 use Rattle.rt_sql.specs.declared.piece.Piece.TheVariants.{Blanks, Comment, Token}
 use Rattle.rt_sql.specs.declared.lexeme.TokenKind.{TokenKind}
 use Rattle.rt_sql.specs.declared.lexeme.TokenKind.TheVariants.{Word, Quoted, Text, Number, Sign}
 use Rattle.rt_sql.specs.declared.lexeme.Token as token
-use Rattle.rt_sql.specs.Piece.{IsPiece, is_blank, is_line_feed, begins_word, continues_word, doubled, in_quotes, name_quote, text_quote, is_short_sign, is_double_sign, is_long_sign, is_sign}
+use Rattle.rt_sql.specs.Piece.{IsPiece, is_blank, is_line_feed, begins_word, continues_word, doubled, in_quotes, name_quote, text_quote, is_double_sign, is_long_sign}
 use Rattle.rt_sql.specs.Cut as c
 use Rattle.rt_sql.specs.Cut.{IsLongest, Leads, IsCut, IsUncut}
 use Rattle.rt_sql.specs.Lexeme.{IsTokenOf}
-use Rattle.rt_sql.proofs.KindOf.{Each, at_each}
-use Rattle.rt_sql.proofs.Longest.{no_empty_piece}
+use Rattle.rt_sql.proofs.KindOf.{at_each}
 use Rattle.rt_sql.proofs.Steps.{forward}
 
 blank_is_ascii : (b : ℕ) → is_blank b ≡ true → b < 128

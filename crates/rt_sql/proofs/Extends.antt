@@ -1,6 +1,5 @@
 -- A text that is cut up to a place is cut one piece further.
-use Rattle.std.proofs.Common.{◌≡◌, ℕ, ◌+◌, ◌-◌, ◌<◌, ◌≤◌, List, [], ◌∷◌, ◌++◌, length, take, drop, Option, None, sym, subst, refl, inl, inr, ◌⊎◌, ◌∙◌, arith, append-nil, length-take, length-drop}
-use Rattle.std.specs.Prelude.{slice_range}
+use Rattle.std.proofs.Common.{◌≡◌, ℕ, ◌+◌, ◌-◌, ◌<◌, ◌≤◌, List, [], ◌∷◌, ◌++◌, length, take, drop, None, sym, subst, refl, inl, inr, arith, append-nil, length-take, length-drop}
 use Rattle.std.proofs.lemmas.Bool.{cases_lt}
 use Rattle.std.proofs.lemmas.List.{take_rest}
 use Rattle.rt_sql.specs.declared.piece.Piece.{Piece}
@@ -11,7 +10,7 @@ use Rattle.rt_sql.specs.Piece.{IsPiece}
 use Rattle.rt_sql.specs.Front.{IsLongestPiece, LongestPiece}
 use Rattle.rt_sql.specs.Cut as c
 use Rattle.rt_sql.specs.Cut.{IsLongest, NoneBegins, Leads, IsCut, IsUncut}
-use Rattle.rt_sql.proofs.Steps.{forward, no_piece_back, none_at_end, joins, one_list, cut_is_whole, one_place}
+use Rattle.rt_sql.proofs.Steps.{no_piece_back, joins}
 
 -- the text is cut up to a place
 pub record IsCutTo (text : List ℕ) (tokens : List token.Token) (at : ℕ) : Type 0 where

@@ -1,13 +1,12 @@
 -- The longest of the pieces of some kinds.
-use Rattle.std.proofs.Common.{◌≡◌, ℕ, zero, suc, ◌+◌, ◌<◌, ◌≤◌, List, [], ◌∷◌, length, take, get_or, Option, None, Some, MatchOption, refl, sym, subst, ◌∙◌, inl, inr, ◌⊎◌, arith}
+use Rattle.std.proofs.Common.{◌≡◌, ℕ, zero, suc, ◌+◌, ◌<◌, ◌≤◌, List, [], ◌∷◌, length, take, get_or, Option, None, Some, MatchOption, refl, sym, subst, inl, inr, arith}
 use Rattle.std.proofs.lemmas.Bool.{cases_lt}
 use Rattle.std.proofs.lemmas.List.{get_or_default}
 use Rattle.rt_sql.specs.declared.piece.Piece.{Piece}
 use Rattle.rt_sql.specs.declared.piece.Piece.TheVariants.{Blanks, Comment, Token}
-use Rattle.rt_sql.specs.declared.lexeme.TokenKind.{TokenKind}
 use Rattle.rt_sql.specs.declared.lexeme.TokenKind.TheVariants.{Word, Quoted, Text, Number, Sign}
 use Rattle.rt_sql.specs.Piece.{IsPiece}
-use Rattle.rt_sql.specs.Front.{IsLongestFront, IsLongestPiece, LongestPiece}
+use Rattle.rt_sql.specs.Front.{IsLongestFront, LongestPiece}
 
 -- no front of more than n bytes is a piece of a kind
 abbrev pub NoneLonger : List ℕ → Piece → ℕ → Type 0

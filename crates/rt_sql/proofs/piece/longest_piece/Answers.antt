@@ -1,5 +1,4 @@
-use Rattle.std.proofs.Common.{◌≡◌, ℕ, ◌+◌, Option, subst, sym, arith}
-use Rattle.rt_sql.proofs.Longest.{IsBest, kinds, keeps_best, new_best, best_is_longest}
+use Rattle.rt_sql.proofs.Longest.{kinds, keeps_best, new_best, best_is_longest}
 use Rattle.rt_sql.proofs.piece.longest_piece.Goals as goal
 use Rattle.rt_sql.proofs.piece.longest_piece.Goals.{then-length-most, else-length-most}
 
