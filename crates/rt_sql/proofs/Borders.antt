@@ -1,7 +1,7 @@
 -- Tokens stand between borders of characters.
-use Rattle.std.proofs.Common.{◌≡◌, ℕ, zero, suc, ◌+◌, ◌-◌, ◌<◌, ◌≤◌, ◌==◌, Bool, true, false, not, ◌||◌, ◌&&◌, List, [], ◌∷◌, ◌++◌, length, get_or, take, drop, refl, sym, ap, subst, ◌∙◌, inl, inr, ◌⊎◌, arith, length-take, length-drop, length-append, lit<}
+use Rattle.std.proofs.Common.{◌≡◌, ℕ, zero, suc, ◌+◌, ◌-◌, ◌<◌, ◌≤◌, Bool, true, not, List, [], ◌∷◌, ◌++◌, length, get_or, drop, refl, sym, ap, subst, ◌∙◌, inl, inr, arith, length-take, length-drop, length-append, lit<}
 use Rattle.std.specs.Prelude.{slice_range, codes, IsUtf8, IsCharBoundary, All, Result, Ok, Err, IfOk}
-use Rattle.std.specs.List.{list_all, list_any}
+use Rattle.std.specs.List.{list_all}
 use Rattle.std.specs.Char.{is_ascii_digit}
 use Rattle.std.proofs.lemmas.Bool.{cases_lt, cases_eq, and_parts, and_from, ne_eqb}
 use Rattle.std.proofs.lemmas.Bool.Decides.{nat_tests}
@@ -10,17 +10,15 @@ use Rattle.std.proofs.lemmas.List.Sums.{AllPass-from_list_all}
 use Rattle.std.proofs.lemmas.List.Folds.{list_all-append}
 use Rattle.std.proofs.lemmas.List.Edits.{get_or-between, between_more}
 use Rattle.std.proofs.lemmas.Str.{IsCharBoundary-start, IsCharBoundary-end, IsCharBoundary-before_ascii, IsCharBoundary-after_ascii}
-use Rattle.rt_sql.specs.declared.piece.Piece.{Piece}
 use Rattle.rt_sql.specs.declared.piece.Piece.TheVariants.{Blanks, Comment, Token}
 use Rattle.rt_sql.specs.declared.lexeme.TokenKind.{TokenKind}
 use Rattle.rt_sql.specs.declared.lexeme.TokenKind.TheVariants.{Word, Quoted, Text, Number, Sign}
 use Rattle.rt_sql.specs.declared.lexeme.Token as token
-use Rattle.rt_sql.specs.Piece.{IsPiece, is_blank, is_line_feed, begins_word, continues_word, doubled, in_quotes, name_quote, text_quote, is_short_sign, is_double_sign, is_long_sign, is_sign}
+use Rattle.rt_sql.specs.Piece.{IsPiece, is_blank, is_line_feed, begins_word, continues_word, doubled, in_quotes, name_quote, text_quote, is_double_sign, is_long_sign}
 use Rattle.rt_sql.specs.Cut as c
 use Rattle.rt_sql.specs.Cut.{IsLongest, Leads, IsCut, IsUncut}
 use Rattle.rt_sql.specs.Lexeme.{IsTokenOf}
-use Rattle.rt_sql.proofs.KindOf.{Each, at_each}
-use Rattle.rt_sql.proofs.Longest.{no_empty_piece}
+use Rattle.rt_sql.proofs.KindOf.{at_each}
 use Rattle.rt_sql.proofs.Steps.{forward}
 
 blank_is_ascii : (b : ℕ) → is_blank b ≡ true → b < 128
@@ -73,7 +71,7 @@ after_ascii : (text : List ℕ) (from to : ℕ) → IsUtf8 text → from < to �
 after_ascii text from to utf8 lt le ascii =
     let len : length (slice_range text from to) ≡ to - from = omega (arith, length-take (to - from) (drop from text), length-drop from text) in
     let at : last (slice_range text from to) ≡ get_or text (from + (length (slice_range text from to) - 1)) 0 =
-        get_or-between text from to (length (slice_range text from to) - 1) 0 (omega (arith, len)) in
+    get_or-between text from to (length (slice_range text from to) - 1) 0 (omega (arith, len)) in
     let place : from + (length (slice_range text from to) - 1) ≡ to - 1 = omega (arith, len) in
     let byte : get_or text (to - 1) 0 < 128 = omega (arith, ascii, at, ap (λ (k : ℕ). get_or text k 0) place) in
     let next : to - 1 + 1 ≡ to = omega arith in
@@ -85,22 +83,24 @@ longer_comment text from to le lt (inner, e, all) ne =
     let b : ℕ = get_or text to 0 in
     let more : slice_range text from (to + 1) ≡ slice_range text from to ++ b ∷ [] = between_more text from to 0 le lt in
     let written : slice_range text from (to + 1) ≡ 45 ∷ 45 ∷ inner ++ b ∷ [] = more ∙ ap (λ (xs : List ℕ). xs ++ b ∷ []) e in
-    let here : not (is_line_feed b) ≡ true = ap not (ne_eqb b 10 ne) in
-    (inner ++ b ∷ [], written,
-      list_all-append (λ x. not (is_line_feed x)) inner (b ∷ []) ∙ and_from (list_all (λ x. not (is_line_feed x)) inner) (list_all (λ x. not (is_line_feed x)) (b ∷ [])) all (and_from (not (is_line_feed b)) true here refl))
+    let here : not (is_line_feed b) ≡ true = ap not (ne_eqb b 10 ne) in (
+      inner ++ b ∷ [],
+      written,
+      list_all-append (λ x. not (is_line_feed x)) inner (b ∷ []) ∙ and_from (list_all (λ x. not (is_line_feed x)) inner) (list_all (λ x. not (is_line_feed x)) (b ∷ [])) all (and_from (not (is_line_feed b)) true here refl),
+    )
 
 comment_border : (text : List ℕ) (from to : ℕ) → IsLongest text Comment from to → IsCharBoundary text to
 comment_border text from to long =
     elim (cases_lt to (length text)) [
-    inl lt ↦ elim (cases_eq (get_or text to 0) 10) [
-      inl feed ↦ IsCharBoundary-before_ascii text to lt (omega (arith, feed))
-      | inr other ↦ absurd (
-        long.longest Comment (to + 1) (omega arith) (omega arith)
-        (longer_comment text from to (omega (arith, forward text Comment from to long)) lt long.written other))
+      | inl lt ↦ elim (cases_eq (get_or text to 0) 10) [
+        | inl feed ↦ IsCharBoundary-before_ascii text to lt (omega (arith, feed))
+        | inr other ↦ absurd (
+            long.longest Comment (to + 1) (omega arith) (omega arith)
+            (longer_comment text from to (omega (arith, forward text Comment from to long)) lt long.written other))
       ]
-    | inr le ↦
-      let ends : length text ≡ to = omega (arith, long.within) in
-      subst (IsCharBoundary text) ends (IsCharBoundary-end text)
+      | inr le ↦
+          let ends : length text ≡ to = omega (arith, long.within) in
+          subst (IsCharBoundary text) ends (IsCharBoundary-end text)
     ]
 
 blanks_border : (text : List ℕ) (from to : ℕ) → IsUtf8 text → IsLongest text Blanks from to → IsCharBoundary text to
@@ -125,7 +125,7 @@ token_of_text text kind from to utf8 at long = record {
   within = long.within;
   starts = at;
   ends = token_border text kind from to utf8 long;
-  written = long.written
+  written = long.written;
 }
 
 all_more : (P : token.Token → Type 0) (x : token.Token) (xs : List token.Token) → P x → All P xs → All P (x ∷ xs)

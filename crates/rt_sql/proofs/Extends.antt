@@ -1,6 +1,5 @@
 -- A text that is cut up to a place is cut one piece further.
-use Rattle.std.proofs.Common.{◌≡◌, ℕ, ◌+◌, ◌-◌, ◌<◌, ◌≤◌, List, [], ◌∷◌, ◌++◌, length, take, drop, Option, None, sym, subst, refl, inl, inr, ◌⊎◌, ◌∙◌, arith, append-nil, length-take, length-drop}
-use Rattle.std.specs.Prelude.{slice_range}
+use Rattle.std.proofs.Common.{◌≡◌, ℕ, ◌+◌, ◌-◌, ◌<◌, ◌≤◌, List, [], ◌∷◌, ◌++◌, length, take, drop, None, sym, subst, refl, inl, inr, arith, append-nil, length-take, length-drop}
 use Rattle.std.proofs.lemmas.Bool.{cases_lt}
 use Rattle.std.proofs.lemmas.List.{take_rest}
 use Rattle.rt_sql.specs.declared.piece.Piece.{Piece}
@@ -11,7 +10,7 @@ use Rattle.rt_sql.specs.Piece.{IsPiece}
 use Rattle.rt_sql.specs.Front.{IsLongestPiece, LongestPiece}
 use Rattle.rt_sql.specs.Cut as c
 use Rattle.rt_sql.specs.Cut.{IsLongest, NoneBegins, Leads, IsCut, IsUncut}
-use Rattle.rt_sql.proofs.Steps.{forward, no_piece_back, none_at_end, joins, one_list, cut_is_whole, one_place}
+use Rattle.rt_sql.proofs.Steps.{no_piece_back, joins}
 
 -- the text is cut up to a place
 pub record IsCutTo (text : List ℕ) (tokens : List token.Token) (at : ℕ) : Type 0 where
@@ -30,10 +29,11 @@ found_long text at found le long = record {
   within = omega (arith, long.within, len);
   written = subst (λ (n : ℕ). IsPiece found.0 (take n (drop at text))) past (subst (λ (xs : List ℕ). IsPiece found.0 (take found.1 xs)) (take_rest text at) long.written);
   longest = λ other later lt short written.
-      long.longest other (later - at) (omega arith) (omega (arith, len)) (subst (λ (xs : List ℕ). IsPiece other (take (later - at) xs)) (sym (take_rest text at)) written)
+      long.longest other (later - at) (omega arith) (omega (arith, len)) (subst (λ (xs : List ℕ). IsPiece other (take (later - at) xs)) (sym (take_rest text at)) written);
 } where
   len : length (rest text at) ≡ length text - at
   len = omega (arith, length-take (length text - at) (drop at text), length-drop at text)
+
   past : found.1 ≡ at + found.1 - at
   past = omega arith
 
@@ -58,10 +58,10 @@ uncut_here text tokens at cut lt none = record {
   before = (tokens, cut.way);
   within = lt;
   none = λ piece to le written. elim (cases_lt to at) [
-    inl back ↦ no_piece_back text piece at to (omega arith) written
+    | inl back ↦ no_piece_back text piece at to (omega arith) written
     | inr on ↦ none piece (to - at) (omega (arith, length-take (length text - at) (drop at text), length-drop at text))
         (subst (λ (xs : List ℕ). IsPiece piece (take (to - at) xs)) (sym (take_rest text at)) written)
-    ]
+  ];
 }
 
 pub cut_at_end : (text : List ℕ) (tokens : List token.Token) (at : ℕ) → IsCutTo text tokens at → length text ≤ at → IsCut text tokens

@@ -1,5 +1,5 @@
 -- The longest words, comments and signs at the front of a text.
-use Rattle.std.proofs.Common.{◌≡◌, ℕ, zero, suc, ◌+◌, ◌-◌, ◌<◌, ◌≤◌, Bool, true, false, not, ◌&&◌, List, [], ◌∷◌, ◌++◌, length, get_or, take, drop, IsTrue, refl, sym, ap, subst, ◌∙◌, inl, inr, ◌⊎◌, arith}
+use Rattle.std.proofs.Common.{◌≡◌, ℕ, zero, suc, ◌+◌, ◌-◌, ◌<◌, ◌≤◌, true, false, not, List, [], ◌∷◌, length, get_or, take, drop, refl, sym, subst, inl, inr, ◌⊎◌, arith}
 use Rattle.std.specs.List.{list_all}
 use Rattle.std.proofs.lemmas.List.{take_rest}
 use Rattle.std.proofs.lemmas.Bool.{and_parts, and_from}
@@ -16,7 +16,7 @@ word_front_cons : (b : ℕ) (bs : List ℕ) (n : ℕ) → begins_word b ≡ true
 word_front_cons b bs n begins run = record {
   within = omega (arith, run.within);
   holds = λ some. and_from (begins_word b) (list_all continues_word (take n bs)) begins (run_passes continues_word bs n run);
-  longest = λ later lt le word. longer later lt le word
+  longest = λ later lt le word. longer later lt le word;
 } where
   longer : (later : ℕ) → suc n < later → later ≤ length (b ∷ bs) → IsPiece (piece.Token kind.Word) (take later (b ∷ bs)) → ⊥
   longer zero lt le word = absurd (omega arith)
@@ -36,7 +36,7 @@ no_word [] begins some = absurd (omega arith)
 no_word (b ∷ bs) begins some = record {
   within = omega arith;
   holds = λ lt. absurd (omega arith);
-  longest = λ later lt le word. longer later lt word
+  longest = λ later lt le word. longer later lt word;
 } where
   longer : (later : ℕ) → 0 < later → IsPiece (piece.Token kind.Word) (take later (b ∷ bs)) → ⊥
   longer zero lt word = absurd (omega arith)
@@ -49,7 +49,7 @@ comment_front_cons : (bs : List ℕ) (n : ℕ) → IsLineRun bs n → IsLongestF
 comment_front_cons bs n run = record {
   within = omega (arith, run.within);
   holds = λ some. (take n bs, refl, run_passes (λ b. not (is_line_feed b)) bs n run);
-  longest = λ later lt le comment. longer later lt le comment
+  longest = λ later lt le comment. longer later lt le comment;
 } where
   longer : (later : ℕ) → suc (suc n) < later → later ≤ length (45 ∷ 45 ∷ bs) → IsPiece piece.Comment (take later (45 ∷ 45 ∷ bs)) → ⊥
   longer zero lt le comment = absurd (omega arith)
@@ -93,10 +93,10 @@ sign_front xs n le holds none1 none2 none3 = record {
   within = le;
   holds = holds;
   longest = λ later lt within sign. elim (sign_lengths xs later within sign) [
-    inl e ↦ longer 1 later e none1 lt within sign
+    | inl e ↦ longer 1 later e none1 lt within sign
     | inr (inl e) ↦ longer 2 later e none2 lt within sign
     | inr (inr e) ↦ longer 3 later e none3 lt within sign
-    ]
+  ];
 } where
   longer : (m : ℕ) (later : ℕ) → later ≡ m → NoSign xs n m → n < later → later ≤ length xs → is_sign (take later xs) ≡ true → ⊥
   longer m later e none lt within sign =

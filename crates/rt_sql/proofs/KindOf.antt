@@ -1,14 +1,14 @@
 -- A piece is of one kind, which its first bytes tell.
-use Rattle.std.proofs.Common.{◌≡◌, ℕ, ◌==◌, ◌<◌, ◌≤◌, Bool, true, false, cond, ◌||◌, ◌&&◌, eqb, List, [], ◌∷◌, ◌++◌, length, get_or, refl, sym, subst, ◌∙◌, inl, inr, ◌⊎◌, arith}
+use Rattle.std.proofs.Common.{◌≡◌, ℕ, ◌==◌, ◌<◌, Bool, true, false, cond, ◌||◌, ◌&&◌, List, [], ◌∷◌, length, get_or, refl, sym, subst, ◌∙◌, inl, inr, arith}
 use Rattle.std.specs.Prelude.{codes}
 use Rattle.std.specs.List.{list_all, list_any}
-use Rattle.std.specs.Char.{is_ascii_alphabetic, is_ascii_alphanumeric, is_ascii_digit}
+use Rattle.std.specs.Char.{is_ascii_digit}
 use Rattle.std.proofs.lemmas.Bool.{and_parts, or_cases, eqb-true}
 use Rattle.std.proofs.lemmas.Bool.Decides.{nat_tests}
 use Rattle.rt_sql.specs.declared.piece.Piece.{Piece}
 use Rattle.rt_sql.specs.declared.piece.Piece.TheVariants.{Blanks, Comment, Token}
 use Rattle.rt_sql.specs.declared.lexeme.TokenKind.TheVariants.{Word, Quoted, Text, Number, Sign}
-use Rattle.rt_sql.specs.Piece.{IsPiece, is_blank, begins_word, continues_word, is_short_sign, is_double_sign, is_long_sign, is_sign}
+use Rattle.rt_sql.specs.Piece.{IsPiece, is_blank, begins_word, continues_word, is_double_sign, is_long_sign, is_sign}
 
 -- the kind of a piece by its first two bytes
 abbrev kind_of : ℕ → ℕ → Piece
@@ -29,8 +29,8 @@ pub at_each : (P : ℕ → Type 0) (xs : List ℕ) (a : ℕ) → Each P xs → l
 at_each P [] a each any = absurd (cc (any))
 at_each P (x ∷ xs) a (here, others) any =
     elim (or_cases (x == a) (list_any (λ s. s == a) xs) any) [
-    inl is ↦ subst P (eqb-true x a is) here
-    | inr among ↦ at_each P xs a others among
+      | inl is ↦ subst P (eqb-true x a is) here
+      | inr among ↦ at_each P xs a others among
     ]
 
 word_is_no_blank : (b : ℕ) → begins_word b ≡ true → is_blank b ≡ false
@@ -57,14 +57,14 @@ of_first a b x at same = subst (λ (y : ℕ). kind_of y b ≡ Token Sign) (sym (
 double_kind : (a b : ℕ) → is_double_sign a b ≡ true → kind_of a b ≡ Token Sign
 double_kind a b double =
     elim (or_cases ((a == 60 && b == 62) || ((a == 33 || a == 60 || a == 62) && b == 61)) (a == 58 && b == 58) double) [
-    inl early ↦ elim (or_cases (a == 60 && b == 62) ((a == 33 || a == 60 || a == 62) && b == 61) early) [
-      inl unequal ↦ of_first a b 60 refl (and_parts (a == 60) (b == 62) unequal).0
-      | inr before ↦ elim (or_cases (a == 33 || a == 60) (a == 62) (and_parts (a == 33 || a == 60 || a == 62) (b == 61) before).0) [
-        inl low ↦ elim (or_cases (a == 33) (a == 60) low) [ inl not ↦ of_first a b 33 refl not | inr less ↦ of_first a b 60 refl less ]
-        | inr greater ↦ of_first a b 62 refl greater
+      | inl early ↦ elim (or_cases (a == 60 && b == 62) ((a == 33 || a == 60 || a == 62) && b == 61) early) [
+        | inl unequal ↦ of_first a b 60 refl (and_parts (a == 60) (b == 62) unequal).0
+        | inr before ↦ elim (or_cases (a == 33 || a == 60) (a == 62) (and_parts (a == 33 || a == 60 || a == 62) (b == 61) before).0) [
+          | inl low ↦ elim (or_cases (a == 33) (a == 60) low) [ inl not ↦ of_first a b 33 refl not | inr less ↦ of_first a b 60 refl less ]
+          | inr greater ↦ of_first a b 62 refl greater
         ]
       ]
-    | inr colons ↦ of_first a b 58 refl (and_parts (a == 58) (b == 58) colons).0
+      | inr colons ↦ of_first a b 58 refl (and_parts (a == 58) (b == 58) colons).0
     ]
 
 long_kind : (a b c : ℕ) → is_long_sign a b c ≡ true → kind_of a b ≡ Token Sign

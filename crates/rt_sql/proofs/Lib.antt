@@ -6,3 +6,4 @@ pub mod Longest
 pub mod Quotes
 pub mod Runs
 pub mod Steps
+pub mod Unquoting

@@ -1,13 +1,12 @@
 -- The longest of the pieces of some kinds.
-use Rattle.std.proofs.Common.{◌≡◌, ℕ, zero, suc, ◌+◌, ◌<◌, ◌≤◌, List, [], ◌∷◌, length, take, get_or, Option, None, Some, MatchOption, refl, sym, subst, ◌∙◌, inl, inr, ◌⊎◌, arith}
+use Rattle.std.proofs.Common.{◌≡◌, ℕ, zero, suc, ◌+◌, ◌<◌, ◌≤◌, List, [], ◌∷◌, length, take, get_or, Option, None, Some, MatchOption, refl, sym, subst, inl, inr, arith}
 use Rattle.std.proofs.lemmas.Bool.{cases_lt}
 use Rattle.std.proofs.lemmas.List.{get_or_default}
 use Rattle.rt_sql.specs.declared.piece.Piece.{Piece}
 use Rattle.rt_sql.specs.declared.piece.Piece.TheVariants.{Blanks, Comment, Token}
-use Rattle.rt_sql.specs.declared.lexeme.TokenKind.{TokenKind}
 use Rattle.rt_sql.specs.declared.lexeme.TokenKind.TheVariants.{Word, Quoted, Text, Number, Sign}
 use Rattle.rt_sql.specs.Piece.{IsPiece}
-use Rattle.rt_sql.specs.Front.{IsLongestFront, IsLongestPiece, LongestPiece}
+use Rattle.rt_sql.specs.Front.{IsLongestFront, LongestPiece}
 
 -- no front of more than n bytes is a piece of a kind
 abbrev pub NoneLonger : List ℕ → Piece → ℕ → Type 0
@@ -30,25 +29,25 @@ more_none : (text : List ℕ) (kinds : List Piece) (index most n : ℕ) (e : Pie
     → ((k : ℕ) (d : Piece) → k < index → NoneLonger text (get_or kinds k d) most) → (k : ℕ) (d : Piece) → k < index + 1 → NoneLonger text (get_or kinds k d) most
 more_none text kinds index most n e in_kinds le here below k d lt later more within piece =
     elim (cases_lt k index) [
-    inl before ↦ below k d before later more within piece
-    | inr last ↦
-      let is : k ≡ index = omega arith in
-      let same : get_or kinds k d ≡ get_or kinds index e = subst (λ (j : ℕ). get_or kinds j d ≡ get_or kinds index e) (sym is) (get_or_default kinds index d e in_kinds) in
-      here later (omega arith) within (subst (λ (p : Piece). IsPiece p (take later text)) same piece)
+      | inl before ↦ below k d before later more within piece
+      | inr last ↦
+          let is : k ≡ index = omega arith in
+          let same : get_or kinds k d ≡ get_or kinds index e = subst (λ (j : ℕ). get_or kinds j d ≡ get_or kinds index e) (sym is) (get_or_default kinds index d e in_kinds) in
+          here later (omega arith) within (subst (λ (p : Piece). IsPiece p (take later text)) same piece)
     ]
 
 pub keeps_best : (text : List ℕ) (kinds : List Piece) (index : ℕ) (longest : Option (Piece × ℕ)) (most n : ℕ) (e : Piece) → IsBest text kinds index longest most
     → index < length kinds → n ≤ most → IsLongestFront (IsPiece (get_or kinds index e)) text n → IsBest text kinds (index + 1) longest most
 keeps_best text kinds index longest most n e best in_kinds le front = record {
   found = best.found;
-  none = more_none text kinds index most n e in_kinds le front.longest best.none
+  none = more_none text kinds index most n e in_kinds le front.longest best.none;
 }
 
 pub new_best : (text : List ℕ) (kinds : List Piece) (index : ℕ) (longest : Option (Piece × ℕ)) (most n : ℕ) (e : Piece) → IsBest text kinds index longest most
     → index < length kinds → most < n → IsLongestFront (IsPiece (get_or kinds index e)) text n → IsBest text kinds (index + 1) (Some (get_or kinds index e, n)) n
 new_best text kinds index longest most n e best in_kinds lt front = record {
   found = record { as_long = refl; some = omega arith; within = front.within; written = front.holds (omega arith) };
-  none = more_none text kinds index n n e in_kinds (omega arith) front.longest (λ k d less later more within. best.none k d less later (omega arith) within)
+  none = more_none text kinds index n n e in_kinds (omega arith) front.longest (λ k d less later more within. best.none k d less later (omega arith) within);
 }
 
 abbrev pub kinds : List Piece
@@ -84,5 +83,5 @@ best_is_longest text index None most le best = none_begins text index most le be
 best_is_longest text index (Some (piece, n)) most le best = record {
   within = omega (arith, best.found.as_long, best.found.within);
   written = subst (λ (m : ℕ). IsPiece piece (take m text)) (sym best.found.as_long) best.found.written;
-  longest = λ other later lt within written. no_other text index most le best.none other later (omega (arith, best.found.as_long)) within written
+  longest = λ other later lt within written. no_other text index most le best.none other later (omega (arith, best.found.as_long)) within written;
 }

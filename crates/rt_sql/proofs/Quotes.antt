@@ -1,5 +1,5 @@
 -- How a text in quotes is read: byte by byte, and a doubled quote at once.
-use Rattle.std.proofs.Common.{◌≡◌, ℕ, zero, suc, ◌+◌, ◌-◌, ◌<◌, ◌≤◌, Bool, true, false, cond, List, [], ◌∷◌, ◌++◌, length, get_or, take, drop, refl, sym, ap, subst, ◌∙◌, inl, inr, ◌⊎◌, arith, length-append, length-take}
+use Rattle.std.proofs.Common.{◌≡◌, ℕ, zero, suc, ◌+◌, ◌-◌, ◌<◌, ◌≤◌, Bool, cond, List, [], ◌∷◌, ◌++◌, length, get_or, take, drop, refl, sym, ap, subst, ◌∙◌, inl, inr, arith, length-append, length-take}
 use Rattle.std.proofs.lemmas.List.{take_rest}
 use Rattle.std.proofs.lemmas.Bool.{cases_eq, cases_lt, eq-eqb, ne_eqb}
 use Rattle.rt_sql.specs.declared.piece.Piece.TheVariants as piece
@@ -28,14 +28,14 @@ closes_plain : (quote b : ℕ) (bs : List ℕ) → (b ≡ quote → ⊥) → Clo
 closes_plain quote b bs ne ([], e) = absurd (ne (cc (e)))
 closes_plain quote b bs ne (c ∷ cs, e) =
     elim (cases_eq c quote) [
-    inl is ↦
-      let twice : doubled quote (c ∷ cs) ≡ quote ∷ quote ∷ doubled quote cs = subst (λ (x : ℕ). doubled quote (x ∷ cs) ≡ quote ∷ quote ∷ doubled quote cs) (sym is) (doubled_quote quote cs) in
-      let f : b ∷ bs ≡ quote ∷ quote ∷ doubled quote cs ++ quote ∷ [] = e ∙ ap (λ (xs : List ℕ). xs ++ quote ∷ []) twice in
-      absurd (ne (cc (f)))
-    | inr isnt ↦
-      let f : b ∷ bs ≡ c ∷ doubled quote cs ++ quote ∷ [] = e ∙ ap (λ (xs : List ℕ). xs ++ quote ∷ []) (doubled_plain quote c cs isnt) in
-      let g : bs ≡ doubled quote cs ++ quote ∷ [] = cc (f) in
-      (cs, g)
+      | inl is ↦
+          let twice : doubled quote (c ∷ cs) ≡ quote ∷ quote ∷ doubled quote cs = subst (λ (x : ℕ). doubled quote (x ∷ cs) ≡ quote ∷ quote ∷ doubled quote cs) (sym is) (doubled_quote quote cs) in
+          let f : b ∷ bs ≡ quote ∷ quote ∷ doubled quote cs ++ quote ∷ [] = e ∙ ap (λ (xs : List ℕ). xs ++ quote ∷ []) twice in
+          absurd (ne (cc (f)))
+      | inr isnt ↦
+          let f : b ∷ bs ≡ c ∷ doubled quote cs ++ quote ∷ [] = e ∙ ap (λ (xs : List ℕ). xs ++ quote ∷ []) (doubled_plain quote c cs isnt) in
+          let g : bs ≡ doubled quote cs ++ quote ∷ [] = cc (f) in
+          (cs, g)
     ]
 
 to_plain : (quote b : ℕ) (bs : List ℕ) → (b ≡ quote → ⊥) → Closes quote bs → Closes quote (b ∷ bs)
@@ -47,16 +47,16 @@ closes_pair : (quote x : ℕ) (bs : List ℕ) → Closes quote (quote ∷ x ∷ 
 closes_pair quote x bs ([], e) = absurd (cc (e))
 closes_pair quote x bs (c ∷ cs, e) =
     elim (cases_eq c quote) [
-    inl is ↦
-      let twice : doubled quote (c ∷ cs) ≡ quote ∷ quote ∷ doubled quote cs = subst (λ (y : ℕ). doubled quote (y ∷ cs) ≡ quote ∷ quote ∷ doubled quote cs) (sym is) (doubled_quote quote cs) in
-      let f : quote ∷ x ∷ bs ≡ quote ∷ quote ∷ doubled quote cs ++ quote ∷ [] = e ∙ ap (λ (xs : List ℕ). xs ++ quote ∷ []) twice in
-      let same : x ≡ quote = cc (f) in
-      let rest : bs ≡ doubled quote cs ++ quote ∷ [] = cc (f) in
-      (same, (cs, rest))
-    | inr isnt ↦
-      let f : quote ∷ x ∷ bs ≡ c ∷ doubled quote cs ++ quote ∷ [] = e ∙ ap (λ (xs : List ℕ). xs ++ quote ∷ []) (doubled_plain quote c cs isnt) in
-      let head : c ≡ quote = cc (f) in
-      absurd (isnt head)
+      | inl is ↦
+          let twice : doubled quote (c ∷ cs) ≡ quote ∷ quote ∷ doubled quote cs = subst (λ (y : ℕ). doubled quote (y ∷ cs) ≡ quote ∷ quote ∷ doubled quote cs) (sym is) (doubled_quote quote cs) in
+          let f : quote ∷ x ∷ bs ≡ quote ∷ quote ∷ doubled quote cs ++ quote ∷ [] = e ∙ ap (λ (xs : List ℕ). xs ++ quote ∷ []) twice in
+          let same : x ≡ quote = cc (f) in
+          let rest : bs ≡ doubled quote cs ++ quote ∷ [] = cc (f) in
+          (same, (cs, rest))
+      | inr isnt ↦
+          let f : quote ∷ x ∷ bs ≡ c ∷ doubled quote cs ++ quote ∷ [] = e ∙ ap (λ (xs : List ℕ). xs ++ quote ∷ []) (doubled_plain quote c cs isnt) in
+          let head : c ≡ quote = cc (f) in
+          absurd (isnt head)
     ]
 
 to_pair : (quote : ℕ) (bs : List ℕ) → Closes quote bs → Closes quote (quote ∷ quote ∷ bs)
@@ -74,7 +74,7 @@ pub record IsReadTo (quote : ℕ) (text rest : List ℕ) (longest : ℕ) : Type 
   pub holds : 0 < longest → IsQuoted quote (take longest text)
   pub closing : (n : ℕ) → n ≤ length rest → Closes quote (take n rest) → IsQuoted quote (take (length text - length rest + n) text)
   pub longer : (later : ℕ) → longest < later → later ≤ length text → IsQuoted quote (take later text)
-    → (n : ℕ) × (later ≡ length text - length rest + n) × (n ≤ length rest) × Closes quote (take n rest)
+      → (n : ℕ) × (later ≡ length text - length rest + n) × (n ≤ length rest) × Closes quote (take n rest)
 
 at_length : (quote m n : ℕ) (text : List ℕ) → m ≡ n → IsQuoted quote (take m text) → IsQuoted quote (take n text)
 at_length quote m n text e h = subst (λ (k : ℕ). IsQuoted quote (take k text)) e h
@@ -87,7 +87,7 @@ past_plain quote b text bs longest ne read = record {
   holds = read.holds;
   closing = λ n le closes. at_length quote (length text - length (b ∷ bs) + suc n) (length text - length bs + n) text (omega (arith, read.shorter))
       (read.closing (suc n) (omega arith) (to_plain quote b (take n bs) ne closes));
-  longer = λ later lt le quoted. let (n, e, short, closes) = read.longer later lt le quoted in ends later n e short closes
+  longer = λ later lt le quoted. let (n, e, short, closes) = read.longer later lt le quoted in ends later n e short closes;
 } where
   ends : (later n : ℕ) → later ≡ length text - length (b ∷ bs) + n → n ≤ length (b ∷ bs) → Closes quote (take n (b ∷ bs))
       → (n : ℕ) × (later ≡ length text - length bs + n) × (n ≤ length bs) × Closes quote (take n bs)
@@ -104,7 +104,7 @@ past_pair quote text bs longest read = record {
   closing = λ n le closes. at_length quote (length text - length (quote ∷ quote ∷ bs) + suc (suc n)) (length text - length bs + n) text (omega (arith, read.shorter))
       (read.closing (suc (suc n)) (omega arith) (to_pair quote (take n bs) closes));
   longer = λ later lt le quoted.
-      let (n, e, short, closes) = read.longer later (omega (arith, read.within)) le quoted in ends later n lt e short closes
+      let (n, e, short, closes) = read.longer later (omega (arith, read.within)) le quoted in ends later n lt e short closes;
 } where
   ends : (later n : ℕ) → length text - length (quote ∷ quote ∷ bs) + 1 < later → later ≡ length text - length (quote ∷ quote ∷ bs) + n → n ≤ length (quote ∷ quote ∷ bs)
       → Closes quote (take n (quote ∷ quote ∷ bs)) → (n : ℕ) × (later ≡ length text - length bs + n) × (n ≤ length bs) × Closes quote (take n bs)
@@ -119,7 +119,7 @@ closed quote text bs longest alone read = record {
   within = omega (arith, read.shorter);
   holds = λ some. read.closing 1 (omega arith) (closes_one quote);
   longest = λ later lt le quoted.
-      let (n, e, short, closes) = read.longer later (omega (arith, read.within)) le quoted in ends bs alone later n lt e short closes
+      let (n, e, short, closes) = read.longer later (omega (arith, read.within)) le quoted in ends bs alone later n lt e short closes;
 } where
   ends : (bs : List ℕ) → ((x : ℕ) (ys : List ℕ) → bs ≡ x ∷ ys → x ≡ quote → ⊥) → (later n : ℕ) → length text - length (quote ∷ bs) + 1 < later
       → later ≡ length text - length (quote ∷ bs) + n → n ≤ length (quote ∷ bs) → Closes quote (take n (quote ∷ bs)) → ⊥
@@ -132,7 +132,7 @@ ended : (quote : ℕ) (text : List ℕ) (longest : ℕ) → IsReadTo quote text 
 ended quote text longest read = record {
   within = omega (arith, read.within);
   holds = read.holds;
-  longest = λ later lt le quoted. let (n, e, short, closes) = read.longer later lt le quoted in ends n short closes
+  longest = λ later lt le quoted. let (n, e, short, closes) = read.longer later lt le quoted in ends n short closes;
 } where
   ends : (n : ℕ) → n ≤ length {A = ℕ} [] → Closes quote (take n []) → ⊥
   ends zero short closes = closes_empty quote closes
@@ -176,10 +176,11 @@ opened_cons quote bs = record {
   within = omega arith;
   holds = λ some. absurd (omega arith);
   closing = λ n le closes. at_length quote (suc n) (length (quote ∷ bs) - length bs + n) (quote ∷ bs) (omega arith) (opens n closes);
-  longer = λ later lt le quoted. behind later le quoted
+  longer = λ later lt le quoted. behind later le quoted;
 } where
   opens : (n : ℕ) → Closes quote (take n bs) → IsQuoted quote (take (suc n) (quote ∷ bs))
   opens n (inner, e) = (inner, ap (λ (xs : List ℕ). quote ∷ xs) e)
+
   behind : (later : ℕ) → later ≤ length (quote ∷ bs) → IsQuoted quote (take later (quote ∷ bs))
       → (n : ℕ) × (later ≡ length (quote ∷ bs) - length bs + n) × (n ≤ length bs) × Closes quote (take n bs)
   behind zero le (inner, e) = absurd (cc (e))
@@ -197,7 +198,7 @@ pub reads_none : (quote : ℕ) (text : List ℕ) → (1 ≤ length text → get_
 reads_none quote text ne = record {
   within = omega arith;
   holds = λ some. absurd (omega arith);
-  longest = λ later lt le quoted. opens text ne later lt le quoted
+  longest = λ later lt le quoted. opens text ne later lt le quoted;
 } where
   opens : (text : List ℕ) → (1 ≤ length text → get_or text 0 0 ≡ quote → ⊥) → (later : ℕ) → 0 < later → later ≤ length text → IsQuoted quote (take later text) → ⊥
   opens text ne zero lt le quoted = absurd (omega arith)
@@ -208,10 +209,10 @@ length_doubled : (quote : ℕ) (bs : List ℕ) → length bs ≤ length (doubled
 length_doubled quote [] = omega arith
 length_doubled quote (b ∷ bs) =
     elim (cases_eq b quote) [
-    inl is ↦
-      let twice : doubled quote (b ∷ bs) ≡ quote ∷ quote ∷ doubled quote bs = subst (λ (y : ℕ). doubled quote (y ∷ bs) ≡ quote ∷ quote ∷ doubled quote bs) (sym is) (doubled_quote quote bs) in
-      omega (arith, ap length twice, length_doubled quote bs)
-    | inr isnt ↦ omega (arith, ap length (doubled_plain quote b bs isnt), length_doubled quote bs)
+      | inl is ↦
+          let twice : doubled quote (b ∷ bs) ≡ quote ∷ quote ∷ doubled quote bs = subst (λ (y : ℕ). doubled quote (y ∷ bs) ≡ quote ∷ quote ∷ doubled quote bs) (sym is) (doubled_quote quote bs) in
+          omega (arith, ap length twice, length_doubled quote bs)
+      | inr isnt ↦ omega (arith, ap length (doubled_plain quote b bs isnt), length_doubled quote bs)
     ]
 
 length_quoted : (quote : ℕ) (inner bs : List ℕ) → bs ≡ in_quotes quote inner → length inner + 2 ≤ length bs
@@ -223,7 +224,7 @@ pub name_front : (xs : List ℕ) (n : ℕ) → IsLongestFront (IsQuoted name_quo
 name_front xs n front lt = record {
   within = front.within;
   holds = λ some. let (inner, e) = front.holds some in named inner e;
-  longest = λ later more le (name, some, e). front.longest later more le (name, e)
+  longest = λ later more le (name, some, e). front.longest later more le (name, e);
 } where
   named : (inner : List ℕ) → take n xs ≡ in_quotes name_quote inner → IsPiece (piece.Token kind.Quoted) (take n xs)
   named [] e = absurd (omega (arith, ap length e, length-take n xs, front.within))
@@ -234,7 +235,7 @@ no_name_front xs n front le = record {
   within = omega arith;
   holds = λ some. absurd (omega arith);
   longest = λ later lt within (name, some, e). elim (cases_lt n later) [
-    inl more ↦ front.longest later more within (name, e)
+    | inl more ↦ front.longest later more within (name, e)
     | inr less ↦ absurd (omega (arith, length_quoted name_quote name (take later xs) e, length-take later xs))
-    ]
+  ];
 }

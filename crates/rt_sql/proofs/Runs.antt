@@ -1,7 +1,6 @@
 -- The longest front of a list whose elements pass a test.
 use Rattle.std.proofs.Common.{◌≡◌, ℕ, ◌<◌, ◌≤◌, Bool, true, false, List, [], ◌∷◌, length, get_or, take, IsTrue, subst, sym, ◌∙◌, ap, arith, length-take}
 use Rattle.std.specs.List.{prefix_len, list_all}
-
 use Rattle.std.proofs.lemmas.List.Sums.{prefix_len_is, prefix_len_passes, prefix_len_stops, AllPass-from_list_all, list_all-from_AllPass}
 use Rattle.std.proofs.Math.Seq.{get_or-take}
 use Rattle.rt_sql.specs.Front.{IsRun, IsLongestFront}
@@ -42,5 +41,5 @@ pub run_front : (p : ℕ → Bool) (xs : List ℕ) (n : ℕ) → IsRun (λ x b. 
 run_front p xs n run = record {
   within = run.within;
   holds = λ some. (omega (arith, length-take n xs, run.within), run_passes p xs n run);
-  longest = λ later lt le piece. run_stops p xs n run later lt le piece.1
+  longest = λ later lt le piece. run_stops p xs n run later lt le piece.1;
 }

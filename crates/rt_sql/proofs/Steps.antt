@@ -1,5 +1,5 @@
 -- A text is cut in one way.
-use Rattle.std.proofs.Common.{◌≡◌, ℕ, zero, suc, ◌+◌, ◌-◌, ◌<◌, ◌≤◌, List, [], ◌∷◌, ◌++◌, length, take, drop, refl, sym, ap, subst, ◌∙◌, inl, inr, ◌⊎◌, arith, length-take}
+use Rattle.std.proofs.Common.{◌≡◌, ℕ, ◌-◌, ◌<◌, ◌≤◌, List, [], ◌∷◌, ◌++◌, length, take, drop, refl, sym, ap, subst, ◌∙◌, inl, inr, ◌⊎◌, arith, length-take}
 use Rattle.std.specs.Prelude.{slice_range}
 use Rattle.std.proofs.lemmas.Bool.{cases_lt, cases_order}
 use Rattle.std.proofs.lemmas.List.{take-take}
@@ -30,10 +30,10 @@ none_at_end text piece to le written = no_piece_back text piece (length text) to
 same_step : (text : List ℕ) (p q : Piece) (from x y : ℕ) → IsLongest text p from x → IsLongest text q from y → (p ≡ q) × (x ≡ y)
 same_step text p q from x y long also =
     let ends : x ≡ y = elim (cases_order x y) [
-      inl e ↦ e
+      | inl e ↦ e
       | inr (inl lt) ↦ absurd (long.longest q y lt also.within also.written)
       | inr (inr gt) ↦ absurd (also.longest p x gt long.within long.written)
-      ] in
+    ] in
     (one_kind p q (slice_range text from y) (subst (λ (to : ℕ). IsPiece p (slice_range text from to)) ends long.written) also.written, ends)
 
 -- what a piece adds before the tokens that follow it
@@ -68,12 +68,12 @@ same_next : (text : List ℕ) (piece : Piece) (from next to : ℕ) (tokens : Lis
     → IsOnlyWay text from (with_piece piece from next tokens) to
 same_next text piece from next to tokens long only others end way none =
     elim (view way) [
-    inl (here, empty) ↦ absurd (none_here text piece end next none (subst (λ (at : ℕ). IsLongest text piece at next) here long))
-    | inr begins ↦
-      let (kinds, ends) = same_step text piece begins.piece from next begins.next long begins.long in
-      let (same, stop) = only begins.others end (subst (λ (at : ℕ). Leads text at begins.others end) (sym ends) begins.way) none in
-      let joined : with_piece piece from next tokens ≡ with_piece begins.piece from begins.next begins.others = cc (kinds, ends, same) in
-      (joined ∙ sym begins.are, stop)
+      | inl (here, empty) ↦ absurd (none_here text piece end next none (subst (λ (at : ℕ). IsLongest text piece at next) here long))
+      | inr begins ↦
+          let (kinds, ends) = same_step text piece begins.piece from next begins.next long begins.long in
+          let (same, stop) = only begins.others end (subst (λ (at : ℕ). Leads text at begins.others end) (sym ends) begins.way) none in
+          let joined : with_piece piece from next tokens ≡ with_piece begins.piece from begins.next begins.others = cc (kinds, ends, same) in
+          (joined ∙ sym begins.are, stop)
     ]
 
 only_here : (text : List ℕ) (at : ℕ) → NoneBegins text at → IsOnlyWay text at [] at
@@ -126,7 +126,7 @@ front_long text piece at from to le within long = record {
   written = subst (IsPiece piece) (sym (same_slice text at from to le)) long.written;
   longest = λ other later lt short written.
       let before : later ≤ at = omega (arith, length-take at text) in
-      long.longest other later lt (omega arith) (subst (IsPiece other) (same_slice text at from later before) written)
+      long.longest other later lt (omega arith) (subst (IsPiece other) (same_slice text at from later before) written);
 }
 
 front_way : {text : List ℕ} {from to : ℕ} {tokens : List token.Token} (at : ℕ) → Leads text from tokens to → to ≤ at → at ≤ length text → Leads (take at text) from tokens to

@@ -1,5 +1,5 @@
 -- The one cut of a text: at each place the longest piece that begins there.
-use Rattle.std.specs.Prelude.{◌≡◌, ℕ, ◌<◌, ◌≤◌, List, [], ◌∷◌, length, slice_range}
+use Rattle.std.specs.Prelude.{ℕ, ◌<◌, ◌≤◌, List, [], ◌∷◌, length, slice_range}
 use Rattle.rt_sql.specs.declared.piece.Piece.{Piece}
 use Rattle.rt_sql.specs.declared.piece.Piece.TheVariants.{Blanks, Comment, Token}
 use Rattle.rt_sql.specs.declared.lexeme.TokenKind.{TokenKind}
@@ -21,8 +21,8 @@ pub data Leads (text : List ℕ) : ℕ → List token.Token → ℕ → Type 0 w
   blanks : {from next to : ℕ} {tokens : List token.Token} → IsLongest text Blanks from next → Leads text next tokens to → Leads text from tokens to
   comment : {from next to : ℕ} {tokens : List token.Token} → IsLongest text Comment from next → Leads text next tokens to → Leads text from tokens to
   one : {from next to : ℕ} {kind : TokenKind} {tokens : List token.Token}
-    → IsLongest text (Token kind) from next → Leads text next tokens to
-    → Leads text from (record { kind = kind; from = from; to = next } ∷ tokens) to
+      → IsLongest text (Token kind) from next → Leads text next tokens to
+      → Leads text from (record { kind = kind; from = from; to = next } ∷ tokens) to
 
 -- the tokens of a text: they lead from its start to its end
 abbrev pub IsCut : List ℕ → List token.Token → Type 0

@@ -3,7 +3,7 @@ use Rattle.std.specs.Prelude.{◌≡◌, ℕ, ◌==◌, ◌<◌, ◌≤◌, ◌�
 use Rattle.std.specs.Str.{str_to_ascii_lowercase}
 use Rattle.rt_sql.specs.declared.piece.Piece.TheVariants as piece
 use Rattle.rt_sql.specs.declared.lexeme.TokenKind.{TokenKind}
-use Rattle.rt_sql.specs.declared.lexeme.TokenKind.TheVariants.{Word, Quoted, Text, Number, Sign}
+use Rattle.rt_sql.specs.declared.lexeme.TokenKind.TheVariants.{Word, Quoted, Sign}
 use Rattle.rt_sql.specs.declared.lexeme.Token.{Token}
 use Rattle.rt_sql.specs.Piece.{IsPiece, name_quote, text_quote}
 

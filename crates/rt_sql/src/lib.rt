@@ -6,8 +6,10 @@ mod laws;
 mod lexeme;
 mod piece;
 mod scan;
+#[cfg(test)]
+mod tests;
 
 pub use fault::SqlFault;
-pub use laws::{front_is_cut, one_cut, one_fault, tokens_of_the_text};
+pub use laws::{front_is_cut, one_cut, one_fault, quotes_keep, tokens_of_the_text};
 pub use lexeme::{Token, TokenKind};
 pub use scan::{byte_tokens, tokens};

@@ -161,7 +161,10 @@ fn begins_with_short_sign(text: &[u8]) -> bool
 {
     matches!(
         text,
-        [b'(' | b')' | b',' | b';' | b'.' | b'=' | b'<' | b'>' | b'*' | b'[' | b']' | b'-', ..]
+        [
+            b'(' | b')' | b',' | b';' | b'.' | b'=' | b'<' | b'>' | b'*' | b'[' | b']' | b'-',
+            ..
+        ]
     )
 }
 

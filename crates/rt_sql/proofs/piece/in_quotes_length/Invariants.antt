@@ -1,5 +1,4 @@
 use Rattle.std.proofs.Common.{length}
-use Rattle.rt_sql.specs.Front.{IsLongestFront}
 use Rattle.rt_sql.proofs.Quotes.{IsReadTo}
 use Rattle.rt_sql.proofs.piece.in_quotes_length.Given as goal
 

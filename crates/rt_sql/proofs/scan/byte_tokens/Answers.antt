@@ -1,10 +1,9 @@
-use Rattle.std.proofs.Common.{◌≡◌, ℕ, ◌+◌, ◌-◌, length, take, drop, inl, ap, subst, sym}
+use Rattle.std.proofs.Common.{◌-◌, length, take, drop, inl, ap, subst}
 use Rattle.rt_sql.specs.declared.piece.Piece.{Piece}
 use Rattle.rt_sql.specs.declared.fault.SqlFault.TheVariants.{BadToken}
-use Rattle.rt_sql.specs.Cut.{IsCut, IsUncut}
 use Rattle.rt_sql.specs.Front.{IsLongestPiece}
 use Rattle.rt_sql.proofs.Steps.{one_list, cut_is_whole, one_place}
-use Rattle.rt_sql.proofs.Extends.{IsCutTo, cut_to_start, token_further, gap_further, uncut_here, cut_at_end}
+use Rattle.rt_sql.proofs.Extends.{cut_to_start, token_further, gap_further, uncut_here, cut_at_end}
 use Rattle.rt_sql.proofs.scan.byte_tokens.Goals as goal
 
 pub loop-at-init : goal.loop-at-init

@@ -1,4 +1,3 @@
-use Rattle.std.proofs.Common.{◌≡◌}
 use Rattle.rt_sql.proofs.Borders.{each_of}
 use Rattle.rt_sql.proofs.scan.tokens.Goals as goal
 
