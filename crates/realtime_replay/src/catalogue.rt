@@ -33,6 +33,7 @@ pub struct Catalogue {
 }
 
 /// A column as its statement writes it.
+#[derive(Clone, Copy)]
 struct ColumnWords<'a> {
     name: &'a str,
     column_type: ColumnType,
@@ -40,6 +41,7 @@ struct ColumnWords<'a> {
 }
 
 /// The statements as they are written.
+#[derive(Clone, Copy)]
 struct Statements<'a> {
     table: &'a str,
     columns: [ColumnWords<'a>; 2],
@@ -102,7 +104,7 @@ fn take_grant(cursor: &mut Cursor<'_>, table: &str, role: &str) -> Option<()> {
     cursor.expect(";")
 }
 
-fn statements<'a>(words: &'a [Text]) -> Option<Statements<'a>> {
+fn statements_in<'a>(words: &'a [Text]) -> Option<Statements<'a>> {
     let mut cursor = Cursor::new(words);
     let (table, columns) = table_words(&mut cursor)?;
     let role = role_word(&mut cursor)?;
@@ -155,7 +157,7 @@ pub fn read_catalogue(alloc: Global, bytes: &[u8]) -> Result<Catalogue, FormFaul
         return Err(FormFault::NotBuilt);
     };
     let words = words_of(alloc, text)?;
-    let Some(statements) = statements(words.as_slice()) else {
+    let Some(statements) = statements_in(words.as_slice()) else {
         return Err(FormFault::NotBuilt);
     };
     let [first, second] = &statements.columns;

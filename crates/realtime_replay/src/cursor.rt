@@ -1,3 +1,6 @@
+ghost use Rattle.std.specs.Prelude.{All, IfOk};
+ghost use Rattle.rt_sql.specs.Lexeme.{IsTokenOf};
+
 use crate::fault::FormFault;
 use rt_sql::{SqlFault, Token, TokenKind, tokens};
 use rt_value::Text;
@@ -11,7 +14,9 @@ const RESERVED: [&str; 12] = [
 /// The most bytes of a name.
 const MOST_NAME_BYTES: usize = 63;
 
-fn cut(alloc: Global, text: &str) -> Result<Vec<Token>, FormFault> {
+fn cut(alloc: Global, text: &str) -> Result<Vec<Token>, FormFault>
+    ensures { IfOk result (λ tokens. All (IsTokenOf text.now) tokens.items) }
+{
     match tokens(alloc, text) {
         Ok(tokens) => Ok(tokens),
         Err(SqlFault::NoMemory) => Err(FormFault::NoMemory),
@@ -37,6 +42,7 @@ pub fn words_of(alloc: Global, text: &str) -> Result<Vec<Text>, FormFault> {
 }
 
 /// A place in a list of words and signs.
+#[derive(Drop)]
 pub struct Cursor<'a> {
     rest: &'a [Text],
 }

@@ -35,22 +35,34 @@ fn words_of(rt: &HostRuntime) -> io::Result<Vec<String>> {
     Ok(words)
 }
 
+/// The word at a place, empty where there is none.
+fn word_at<'a>(words: &[&'a str], at: usize) -> &'a str {
+    match words.get(at) {
+        Some(word) => word,
+        None => "",
+    }
+}
+
 fn main(rt: HostRuntime) -> ExitCode {
     let Ok(owned) = words_of(&rt) else {
         return ExitCode::from(Status::NoMemory as u8);
     };
-    let Ok(words) = owned.iter().map(|word| word.as_str()).collect::<Vec<&str>>(rt.alloc()) else {
+    let Ok(words) = owned
+        .iter()
+        .map(|word| word.as_str())
+        .collect::<Vec<&str>>(rt.alloc())
+    else {
         return ExitCode::from(Status::NoMemory as u8);
     };
-    let place = |at: usize| words.get(at).copied().unwrap_or("");
-    let mut catalogue = StandardSource::new(fs::open(&rt, place(1)));
-    let mut script = StandardSource::new(open_script(&rt, place(2)));
+    let words = words.as_slice();
+    let mut catalogue = StandardSource::new(fs::open(&rt, word_at(words, 1)));
+    let mut script = StandardSource::new(open_script(&rt, word_at(words, 2)));
     let mut out = StandardSink::new(rt.stdout());
     let mut err = StandardSink::new(rt.stderr());
     let status = replay(
         &rt,
         rt.alloc(),
-        words.as_slice(),
+        words,
         &mut catalogue,
         &mut script,
         &mut out,

@@ -18,6 +18,7 @@ pub struct Script {
 }
 
 /// The four lines of a script, without their LF.
+#[derive(Clone, Copy)]
 struct Lines<'a> {
     open: &'a str,
     frame: &'a str,
