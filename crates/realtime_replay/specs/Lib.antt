@@ -1,6 +1,7 @@
 pub mod Answers
 pub mod Faults
 pub mod Messages
+pub mod Output
 pub mod Printed
 pub mod Trees
 pub mod Words

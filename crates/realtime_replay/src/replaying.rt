@@ -1,5 +1,7 @@
-ghost use Rattle.std.specs.Prelude.{◌≡◌, ◌⊎◌, map, IfErr, OnOk as OnSuccess};
+ghost use Rattle.std.specs.Prelude.{◌≡◌, ◌⊎◌, map, IfErr, IfOk, OnOk as OnSuccess};
 ghost use Rattle.rt_io.specs.Streams.{Rose};
+ghost use Rattle.realtime_replay.specs.Output.{given};
+ghost use Rattle.realtime_replay.specs.Printed.{printed};
 ghost use Rattle.realtime_replay.specs.Words.{NoCommand, IsCommand};
 ghost use Rattle.realtime_replay.specs.declared.words.Command.{Command};
 ghost use Rattle.realtime_replay.specs.Answers.{FaultTells, IsTooLong, IsReadToEnd, OnOk, OnUsage, OnReadFault, OnTooLong, OnWriteFault, UnlessWritten, IsNotUsage};
@@ -20,7 +22,9 @@ use std::thread::Threads;
 const MOST_SOURCE_BYTES: usize = 67108864;
 
 /// What the slot is given: the reply to its join, the system's message, the change.
-fn output(alloc: Global, catalogue: &Catalogue, script: &Script) -> Result<Bytes, AllocError> {
+fn output(alloc: Global, catalogue: &Catalogue, script: &Script) -> Result<Bytes, AllocError>
+    ensures { IfOk result (λ bytes. bytes ≡ printed script.now.slot (given catalogue.now script.now)) }
+{
     let topic = script.join.topic.get();
     let reference = script.join.reference.get();
     let table = &catalogue.table;
@@ -72,6 +76,7 @@ pub fn replay<R: Threads + Sync, C: Source, S: Source, O: Sink, E: Sink>(
     err: &mut E,
 ) -> Status
     ensures usage { OnUsage result (NoCommand (map (λ w. w.now) words.now)) }
+    ensures others { NoCommand (map (λ w. w.now) words.now) → result ≡ Status.Usage }
     ensures command { (command : Command) → IsCommand (map (λ w. w.now) words.now) command → IsNotUsage result }
     ensures catalogue_ended { OnOk result (IsReadToEnd (C.left catalogue.old) (C.left catalogue.new)) }
     ensures script_ended { OnOk result (IsReadToEnd (S.left script.old) (S.left script.new)) }
