@@ -1,12 +1,22 @@
-//! Texts, bytes and lists that contracts see as what they hold.
+//! Values, rows, edits and claims: the data that every crate above speaks of.
 #![tactic(auto)]
 
 mod bytes;
+mod claims;
+mod db;
+mod edit;
 mod list;
+mod row;
 mod shared;
 mod text;
+mod value;
 
 pub use bytes::Bytes;
+pub use claims::{Claim, Claims};
+pub use db::Db;
+pub use edit::Edit;
 pub use list::List;
+pub use row::{Cells, Key, Row};
 pub use shared::Shared;
 pub use text::Text;
+pub use value::{Kind, Value};
