@@ -14,7 +14,7 @@ mod value;
 
 pub use bytes::Bytes;
 pub use claims::{Claim, Claims};
-pub use db::Db;
+pub use db::{Db, Walk, rows_in};
 pub use edit::Edit;
 pub use list::List;
 pub use order::compare;
