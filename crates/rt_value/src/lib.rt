@@ -3,10 +3,13 @@
 
 mod bytes;
 mod claims;
+mod copying;
 mod db;
 mod edit;
 mod list;
+mod memory;
 mod order;
+mod rising;
 mod row;
 mod shared;
 mod text;
@@ -17,6 +20,7 @@ pub use claims::{Claim, Claims};
 pub use db::{Db, Walk, rows_in};
 pub use edit::Edit;
 pub use list::List;
+pub use memory::SortedTables;
 pub use order::compare;
 pub use row::{Cells, Key, Row};
 pub use shared::Shared;

@@ -1,6 +1,6 @@
 use Rattle.std.proofs.Common.{ap, ◌∙◌}
 use Rattle.rt_value.specs.Rows.{rows_from}
-use Rattle.rt_value.proofs.Rising.{from_first}
+use Rattle.rt_value.proofs.Walks.{from_first}
 use Rattle.rt_value.proofs.db.rows_in.Goals as goal
 
 pub returns : goal.returns

@@ -1,7 +1,7 @@
 use Rattle.std.proofs.Common.{ap, sym, ◌∙◌, ◌∷◌, arith, length, ◌<◌}
 use Rattle.std.specs.Option.{option_copied}
 use Rattle.rt_value.specs.Rows.{rows_from}
-use Rattle.rt_value.proofs.Rising.{from_next}
+use Rattle.rt_value.proofs.Walks.{from_next}
 use Rattle.rt_value.proofs.db.WalkIterator.next.Goals as goal
 
 pub returns-clause-steps : goal.returns-clause-steps
