@@ -1,9 +1,7 @@
 -- The value that a text has in a kind.
 use Rattle.std.specs.Prelude.{ℕ, ◌-◌, ◌^◌, ℤ, pos, neg_ℤ, int_le, nat_lt, Bool, true, false, ◌&&◌, ◌||◌, List, length, codes, ◌∷◌, [], Option, Some, None, option_map}
-use Rattle.std.specs.List.{list_all}
-use Rattle.std.specs.Char.{is_ascii_digit}
 use Rattle.std.specs.Int.{from_be_bytes, w128}
-use Rattle.std.specs.Str.{bytes_eq}
+use Rattle.std.specs.Str.{bytes_eq, all_ascii_digits}
 use Rattle.std.specs.Str.Parse.{without_leading_sign, signed_digits_value}
 use Rattle.uuid.specs.Text.{parsed}
 use Rattle.rt_value.specs.declared.value.Value.{Value}
@@ -14,7 +12,7 @@ use Rattle.rt_value.specs.Choice.{◌>>=◌, some_if, first_case}
 
 -- one or more decimal digits, and nothing else
 abbrev pub is_numeral : List ℕ → Bool
-is_numeral text = nat_lt 0 (length text) && list_all is_ascii_digit text
+is_numeral text = nat_lt 0 (length text) && all_ascii_digits text
 
 -- a whole number: an optional `+` or `-`, and one or more digits
 abbrev pub whole_in_text : List ℕ → Option ℤ

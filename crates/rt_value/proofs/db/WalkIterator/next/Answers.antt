@@ -18,5 +18,5 @@ returns-clause-goes g c =
     let w = c.self.inside in
     let rows = g.D.Db.rows w.db.now w.table in
     let shorter : length (rows_from (option_copied c.after-self-inside.result) rows) < length c.args.self.now =
-        omega (arith, ap length (returns-clause-steps g c)) in
+    omega (arith, ap length (returns-clause-steps g c)) in
     record { on = λ _. (tt, tt, shorter); keeps = tt; rests = λ _. tt }
