@@ -1,10 +1,10 @@
 -- Options one after another, and the first case that holds.
-use Rattle.std.specs.Prelude.{Bool, true, false, if◌then◌else◌, List, [], ◌∷◌, Option, Some, None}
+use Rattle.std.specs.Prelude.{Bool, true, false, if◌then◌else◌, List, [], ◌∷◌, Option, Some, None, option_and_then}
 
+-- what f gives of the value, where there is one; in a clause, where this sign means something else, `option_and_then f o`
 infixl 10 ◌>>=◌
 abbrev pub ◌>>=◌ : {A B : Type 0} → Option A → (A → Option B) → Option B
-None >>= f = None
-(Some x) >>= f = f x
+o >>= f = option_and_then f o
 
 -- x where the test holds
 abbrev pub some_if : {A : Type 0} → Bool → A → Option A

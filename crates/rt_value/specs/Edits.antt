@@ -1,5 +1,5 @@
 -- The rows that a list of edits leaves. The newest edit stands first, each with its table's number.
-use Rattle.std.specs.Prelude.{ℕ, ◌==◌, Bool, true, false, if◌then◌else◌, List, [], ◌∷◌, Option, Some, None, option_map}
+use Rattle.std.specs.Prelude.{ℕ, ◌==◌, Bool, true, false, if◌then◌else◌, List, [], ◌∷◌, Option, Some, None, option_map, option_and_then}
 use Rattle.std.specs.List.{filter_map, flat_map}
 use Rattle.rt_value.specs.declared.value.Value.{Value}
 use Rattle.rt_value.specs.declared.value.Value.TheVariants.{Null}
@@ -7,7 +7,7 @@ use Rattle.rt_value.specs.declared.row.Key.{Key}
 use Rattle.rt_value.specs.declared.row.Row.{Row}
 use Rattle.rt_value.specs.declared.edit.Edit.{Edit}
 use Rattle.rt_value.specs.declared.edit.Edit.TheVariants.{Put, Remove, Clear, Nothing}
-use Rattle.rt_value.specs.Choice.{◌>>=◌, is_at}
+use Rattle.rt_value.specs.Choice.{is_at}
 use Rattle.rt_value.specs.Order.{key_cmp, same_key}
 use Rattle.rt_value.specs.Ordered.{in_order}
 
@@ -31,7 +31,7 @@ left_at Clear key before = None
 left_at (Remove gone) key before = elim (same_key key gone) [ true ↦ None | false ↦ before key ]
 left_at (Put old new cells) key before =
     elim (same_key key new) [
-      | true ↦ Some (filled cells (old >>= before))
+      | true ↦ Some (filled cells (option_and_then before old))
       | false ↦ elim (is_at (same_key key) old) [ true ↦ None | false ↦ before key ]
     ]
 left_at Nothing key before = before key

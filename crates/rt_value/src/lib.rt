@@ -6,6 +6,7 @@ mod claims;
 mod copying;
 mod db;
 mod edit;
+pub mod laws;
 mod list;
 mod memory;
 mod order;
