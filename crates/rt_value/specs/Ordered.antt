@@ -4,7 +4,7 @@ use Rattle.std.specs.declared.cmp.Ordering.{Ordering}
 use Rattle.std.specs.declared.cmp.Ordering.TheVariants.{Less, Equal, Greater}
 
 module _ {K : Type 0} (cmp : K → K → Ordering) where
-  abbrev inserted_by : Ordering → K → K → List K → List K → List K
+  abbrev pub inserted_by : Ordering → K → K → List K → List K → List K
   inserted_by Less k l ls more = k ∷ l ∷ ls
   inserted_by Equal k l ls more = l ∷ ls
   inserted_by Greater k l ls more = l ∷ more

@@ -1,14 +1,16 @@
 //! Laws of the definitions, for the proofs of the crates above. Each is a function with an empty body.
 
-ghost use Rattle.std.specs.Prelude.{◌≡◌, ◌≢◌, ◌↔◌, ℕ, true, ◌∷◌, List, Option, None, Some, option_and_then};
+ghost use Rattle.std.specs.Prelude.{◌≡◌, ◌≢◌, ◌↔◌, ℕ, true, ◌∷◌, List, Option, None, Some, option_and_then, option_map};
 ghost use Rattle.std.specs.Cmp.{IsTotalOrder};
 ghost use Rattle.std.specs.declared.cmp.Ordering.{Ordering};
 ghost use Rattle.rt_value.specs.declared.value.Value.{Value};
 ghost use Rattle.rt_value.specs.declared.row.Key.{Key};
+ghost use Rattle.rt_value.specs.declared.row.Row.{Row};
 ghost use Rattle.rt_value.specs.declared.edit.Edit.{Edit};
 ghost use Rattle.rt_value.specs.declared.edit.Edit.TheVariants.{Put, Remove, Clear, Nothing};
 ghost use Rattle.rt_value.specs.Order.{compared, value_cmp, key_cmp, same_key};
-ghost use Rattle.rt_value.specs.Edits.{TableEdit, filled, row_after};
+ghost use Rattle.rt_value.specs.Rows.{is_rising, row_at};
+ghost use Rattle.rt_value.specs.Edits.{TableEdit, filled, row_after, row_of, tables_after};
 
 /// The order of keys is total, and only equal keys tie.
 pub fn keys_are_ordered()
@@ -53,5 +55,20 @@ pub fn one_more_clear()
         row_after ((table, Clear) ∷ before) table key ≡ None }
     ensures nothing { (before : List TableEdit) (table : ℕ) (key : Key) →
         row_after ((table, Nothing) ∷ before) table key ≡ row_after before table key }
+{
+}
+
+/// The rows of a table after edits: their keys rise strictly, and at each key stands the row that the edits leave there.
+pub fn rows_after_edits()
+    ensures rising { (edits : List TableEdit) (table : ℕ) → is_rising (tables_after edits table) ≡ true }
+    ensures at_key { (edits : List TableEdit) (table : ℕ) (key : Key) →
+        row_at key (tables_after edits table) ≡ option_map (row_of key) (row_after edits table key) }
+{
+}
+
+/// Two lists of rows with strictly rising keys are equal where they have the same row at each key.
+pub fn rows_by_their_keys()
+    ensures { (xs ys : List Row) → is_rising xs ≡ true → is_rising ys ≡ true →
+        ((key : Key) → row_at key xs ≡ row_at key ys) → xs ≡ ys }
 {
 }
