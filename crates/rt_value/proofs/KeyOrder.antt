@@ -32,6 +32,9 @@ below_apart k l h = ap is_eq (less_from _ h)
 pub above_apart : (k l : Key) → below k l ≡ true → same_key l k ≡ false
 above_apart k l h = ap is_eq (key_total.antisymm l k ∙ ap ordering_reverse (less_from _ h))
 
+pub not_below_back : (k l : Key) → below k l ≡ true → below l k ≡ false
+not_below_back k l h = ap is_lt (key_total.antisymm l k ∙ ap ordering_reverse (less_from _ h))
+
 pub and_true : (a b : Bool) → a ≡ true → b ≡ true → (a && b) ≡ true
 and_true a b h k = ap (λ x. x && b) h ∙ k
 

@@ -9,6 +9,7 @@ use Rattle.rt_value.specs.declared.edit.Edit.{Edit}
 use Rattle.rt_value.specs.declared.edit.Edit.TheVariants.{Put, Remove, Clear, Nothing}
 use Rattle.rt_value.specs.Choice.{is_at}
 use Rattle.rt_value.specs.Order.{key_cmp, same_key}
+use Rattle.rt_value.specs.Rows.{values_at, rows_without, rows_with}
 use Rattle.rt_value.specs.Ordered.{in_order}
 
 -- an edit of a table
@@ -55,3 +56,16 @@ unfoldable pub tables_after : List TableEdit → ℕ → List Row
 tables_after edits table =
     filter_map (λ key. option_map (row_of key) (row_after edits table key))
     (in_order key_cmp (flat_map (keys_put table) edits))
+
+-- without the row that is moved
+abbrev pub rows_unmoved : Option Key → List Row → List Row
+rows_unmoved None rows = rows
+rows_unmoved (Some old) rows = rows_without old rows
+
+-- the rows that an edit leaves of a table's rows in the order of their keys
+abbrev pub edited_rows : Edit → List Row → List Row
+edited_rows Clear rows = []
+edited_rows (Remove key) rows = rows_without key rows
+edited_rows (Put old new cells) rows =
+    rows_with (row_of new (filled cells (option_and_then (λ key. values_at key rows) old))) (rows_unmoved old rows)
+edited_rows Nothing rows = rows

@@ -10,7 +10,7 @@ ghost use Rattle.rt_value.specs.declared.edit.Edit.{Edit};
 ghost use Rattle.rt_value.specs.declared.edit.Edit.TheVariants.{Put, Remove, Clear, Nothing};
 ghost use Rattle.rt_value.specs.Order.{compared, value_cmp, key_cmp, same_key};
 ghost use Rattle.rt_value.specs.Rows.{is_rising, row_at};
-ghost use Rattle.rt_value.specs.Edits.{TableEdit, filled, row_after, row_of, tables_after};
+ghost use Rattle.rt_value.specs.Edits.{TableEdit, filled, row_after, row_of, edited_rows, tables_after};
 
 /// The order of keys is total, and only equal keys tie.
 pub fn keys_are_ordered()
@@ -63,6 +63,15 @@ pub fn rows_after_edits()
     ensures rising { (edits : List TableEdit) (table : ℕ) → is_rising (tables_after edits table) ≡ true }
     ensures at_key { (edits : List TableEdit) (table : ℕ) (key : Key) →
         row_at key (tables_after edits table) ≡ option_map (row_of key) (row_after edits table key) }
+{
+}
+
+/// The tables after one more edit: its table's rows are edited, and the other tables are left as they are.
+pub fn tables_after_one_more()
+    ensures edited { (before : List TableEdit) (table : ℕ) (edit : Edit) →
+        tables_after ((table, edit) ∷ before) table ≡ edited_rows edit (tables_after before table) }
+    ensures others { (before : List TableEdit) (table other : ℕ) (edit : Edit) → table ≢ other →
+        tables_after ((table, edit) ∷ before) other ≡ tables_after before other }
 {
 }
 
