@@ -1,5 +1,5 @@
 -- An edit of rows in the order of their keys leaves at each key what it says, and the rows in that order.
-use Rattle.std.proofs.Common.{◌≡◌, ◌≢◌, ℕ, Bool, true, false, ◌&&◌, not, cond, List, [], ◌∷◌, ◌++◌, Option, Some, None, option_map, option_and_then, filter, refl, ap, sym, ◌∙◌}
+use Rattle.std.proofs.Common.{◌≡◌, ◌≢◌, ℕ, Bool, true, false, ◌&&◌, not, cond, List, [], ◌∷◌, ◌++◌, Option, Some, None, option_map, filter, refl, ap, sym, ◌∙◌}
 use Rattle.std.specs.List.{list_all}
 use Rattle.std.specs.Cmp.{first_so, second_so}
 use Rattle.std.specs.Ordering.{is_lt}
@@ -13,7 +13,7 @@ use Rattle.rt_value.specs.declared.edit.Edit.TheVariants.{Put, Remove, Clear, No
 use Rattle.rt_value.specs.Choice.{is_at}
 use Rattle.rt_value.specs.Order.{key_cmp, same_key}
 use Rattle.rt_value.specs.Rows.{is_after, rows_behind, is_rising, row_at, values_at, rows_without, rows_before, rows_with}
-use Rattle.rt_value.specs.Edits.{filled, left_at, row_of, rows_unmoved, edited_rows}
+use Rattle.rt_value.specs.Edits.{filled, old_values, left_at, row_of, is_gone, rows_unmoved, edited_rows}
 use Rattle.rt_value.proofs.Ties.{key_ties, same_itself, same_equal, same_from}
 use Rattle.rt_value.proofs.KeyOrder.{below, not_below_itself, not_below_back, below_by_greater, and_true, all_beyond}
 use Rattle.rt_value.proofs.SameRows.{at_front, behind_front, none_below}
@@ -178,9 +178,9 @@ values_back key rows = by (row_at key rows) (found_key key rows)
 pub edited_rises : (edit : Edit) (rows : List Row) → is_rising rows ≡ true → is_rising (edited_rows edit rows) ≡ true
 edited_rises Clear rows h = refl
 edited_rises (Remove key) rows h = filter_rises (λ row. not (same_key key row.key)) rows h
-edited_rises (Put None new cells) rows h = with_rises (row_of new (filled cells None)) rows h
-edited_rises (Put (Some old) new cells) rows h =
-    with_rises (row_of new (filled cells (values_at old rows))) (rows_without old rows) (filter_rises (λ row. not (same_key old row.key)) rows h)
+edited_rises (Put old new cells) rows h =
+    with_rises (row_of new (filled cells (old_values old (λ j. values_at j rows)))) (rows_unmoved old rows)
+    (filter_rises (λ row. not (is_gone old row.key)) rows h)
 edited_rises Nothing rows h = h
 
 removed_at : (gone key : Key) (rows : List Row) (b : Bool) → same_key key gone ≡ b
@@ -188,9 +188,13 @@ removed_at : (gone key : Key) (rows : List Row) (b : Bool) → same_key key gone
 removed_at gone key rows true e = ap (λ k. row_at k (rows_without gone rows)) (same_equal key gone e) ∙ without_at gone rows
 removed_at gone key rows false e = others_without gone key rows e ∙ values_back key rows
 
+pub all_unmoved : (rows : List Row) → rows_unmoved None rows ≡ rows
+all_unmoved [] = refl
+all_unmoved (x ∷ xs) = ap (λ ys. x ∷ ys) (all_unmoved xs)
+
 unmoved_at : (old : Option Key) (key : Key) (rows : List Row)
     → row_at key (rows_unmoved old rows) ≡ option_map (row_of key) (elim (is_at (same_key key) old) as (λ _. Option (List Value)) [ true ↦ None | false ↦ values_at key rows ])
-unmoved_at None key rows = values_back key rows
+unmoved_at None key rows = ap (row_at key) (all_unmoved rows) ∙ values_back key rows
 unmoved_at (Some old) key rows = removed_at old key rows (same_key key old) refl
 
 put_at : (old : Option Key) (new key : Key) (vs : List Value) (rows : List Row) (b : Bool) → same_key key new ≡ b
@@ -206,5 +210,5 @@ put_at old new key vs rows false e = others_with (row_of new vs) key (rows_unmov
 pub edited_at : (edit : Edit) (key : Key) (rows : List Row) → row_at key (edited_rows edit rows) ≡ option_map (row_of key) (left_at edit key (λ j. values_at j rows))
 edited_at Clear key rows = refl
 edited_at (Remove gone) key rows = removed_at gone key rows (same_key key gone) refl
-edited_at (Put old new cells) key rows = put_at old new key (filled cells (option_and_then (λ j. values_at j rows) old)) rows (same_key key new) refl
+edited_at (Put old new cells) key rows = put_at old new key (filled cells (old_values old (λ j. values_at j rows))) rows (same_key key new) refl
 edited_at Nothing key rows = values_back key rows

@@ -1,5 +1,5 @@
 -- What one more edit does to the rows.
-use Rattle.std.proofs.Common.{◌≡◌, ◌≢◌, ℕ, Bool, true, false, ◌==◌, List, [], ◌∷◌, Option, Some, None, option_and_then, refl, ap, sym, ◌∙◌}
+use Rattle.std.proofs.Common.{◌≡◌, ◌≢◌, ℕ, Bool, true, false, ◌==◌, List, [], ◌∷◌, Option, Some, None, refl, ap, sym, ◌∙◌}
 use Rattle.std.specs.Cmp.{unsigned_Decides}
 use Rattle.rt_value.specs.declared.value.Value.{Value}
 use Rattle.rt_value.specs.declared.row.Key.{Key}
@@ -7,7 +7,7 @@ use Rattle.rt_value.specs.declared.edit.Edit.{Edit}
 use Rattle.rt_value.specs.declared.edit.Edit.TheVariants.{Put, Remove, Clear, Nothing}
 use Rattle.rt_value.specs.Choice.{is_at}
 use Rattle.rt_value.specs.Order.{same_key}
-use Rattle.rt_value.specs.Edits.{TableEdit, filled, left_at, row_after}
+use Rattle.rt_value.specs.Edits.{TableEdit, filled, old_values, left_at, row_after}
 use Rattle.rt_value.proofs.Ties.{same_itself, other_keys}
 
 abbrev Rows : Type 0
@@ -42,15 +42,15 @@ module _ (before : Rows) where
   keeps_others : (gone key : Key) → key ≢ gone → left_at (Remove gone) key before ≡ before key
   keeps_others gone key differ = ap (λ b. elim b as (λ _. Option (List Value)) [ true ↦ None | false ↦ before key ]) (other_keys key gone differ)
 
-  puts : (old : Option Key) (new : Key) (cells : List (Option Value)) → left_at (Put old new cells) new before ≡ Some (filled cells (option_and_then before old))
+  puts : (old : Option Key) (new : Key) (cells : List (Option Value)) → left_at (Put old new cells) new before ≡ Some (filled cells (old_values old before))
   puts old new cells =
-      ap (λ b. elim b [ true ↦ Some (filled cells (option_and_then before old)) | false ↦ elim (is_at (same_key new) old) [ true ↦ None | false ↦ before new ] ]) (same_itself new)
+      ap (λ b. elim b [ true ↦ Some (filled cells (old_values old before)) | false ↦ elim (is_at (same_key new) old) [ true ↦ None | false ↦ before new ] ]) (same_itself new)
 
   -- at a key that is not the new one
   put_beside : (old : Option Key) (new key : Key) (cells : List (Option Value)) (b : Bool) → key ≢ new → is_at (same_key key) old ≡ b
       → left_at (Put old new cells) key before ≡ elim b as (λ _. Option (List Value)) [ true ↦ None | false ↦ before key ]
   put_beside old new key cells b differ moved =
-      ap (λ b. elim b [ true ↦ Some (filled cells (option_and_then before old)) | false ↦ elim (is_at (same_key key) old) [ true ↦ None | false ↦ before key ] ]) (other_keys key new differ)
+      ap (λ b. elim b [ true ↦ Some (filled cells (old_values old before)) | false ↦ elim (is_at (same_key key) old) [ true ↦ None | false ↦ before key ] ]) (other_keys key new differ)
       ∙ ap (λ b. elim b as (λ _. Option (List Value)) [ true ↦ None | false ↦ before key ]) moved
 
   moves_away : (old new : Key) (cells : List (Option Value)) → old ≢ new → left_at (Put (Some old) new cells) old before ≡ None
@@ -71,7 +71,7 @@ module _ (before : List TableEdit) (table : ℕ) where
   remove_others gone key differ = here table (Remove gone) before key ∙ keeps_others (row_after before table) gone key differ
 
   pub put : (old : Option Key) (new : Key) (cells : List (Option Value))
-      → row_after ((table, Put old new cells) ∷ before) table new ≡ Some (filled cells (option_and_then (row_after before table) old))
+      → row_after ((table, Put old new cells) ∷ before) table new ≡ Some (filled cells (old_values old (row_after before table)))
   put old new cells = here table (Put old new cells) before new ∙ puts (row_after before table) old new cells
 
   pub moved : (old new : Key) (cells : List (Option Value)) → old ≢ new → row_after ((table, Put (Some old) new cells) ∷ before) table old ≡ None

@@ -1,5 +1,5 @@
 -- The rows of a table after edits rise, and at each key stands the row that the edits leave there.
-use Rattle.std.proofs.Common.{◌≡◌, ℕ, Bool, true, false, ◌==◌, ◌&&◌, ◌||◌, cond, List, [], ◌∷◌, ◌++◌, Option, Some, None, option_map, option_and_then, refl, ap, sym, ◌∙◌}
+use Rattle.std.proofs.Common.{◌≡◌, ℕ, Bool, true, false, ◌==◌, ◌&&◌, ◌||◌, cond, List, [], ◌∷◌, ◌++◌, Option, Some, None, option_map, refl, ap, sym, ◌∙◌}
 use Rattle.std.specs.List.{list_all, list_any, filter_map, flat_map, cons_option}
 use Rattle.std.specs.Cmp.{first_so, second_so}
 use Rattle.rt_value.specs.declared.value.Value.{Value}
@@ -11,7 +11,7 @@ use Rattle.rt_value.specs.Choice.{is_at}
 use Rattle.rt_value.specs.Order.{key_cmp, same_key}
 use Rattle.rt_value.specs.Ordered.{in_order}
 use Rattle.rt_value.specs.Rows.{is_after, is_rising, row_at}
-use Rattle.rt_value.specs.Edits.{TableEdit, filled, left_at, row_after, keys_put, row_of, tables_after}
+use Rattle.rt_value.specs.Edits.{TableEdit, filled, old_values, left_at, row_after, keys_put, row_of, tables_after}
 use Rattle.rt_value.proofs.Ties.{same_equal}
 use Rattle.rt_value.proofs.KeyOrder.{below, and_true}
 use Rattle.rt_value.proofs.SortedKeys.{keys_rise, has, in_order_rises, in_order_has}
@@ -93,7 +93,7 @@ left_none Clear key before t table h s e = refl
 left_none (Remove gone) key before t table h s e = none_either (same_key key gone) (before key) e
 left_none (Put old new cells) key before t table h s e =
     let apart : same_key key new ≡ false = (neither (same_key key new) false (ap (λ b. has key (cond b (new ∷ []) [])) (sym s) ∙ h)).0 in
-    ap (λ b. elim b [ true ↦ Some (filled cells (option_and_then before old)) | false ↦ elim (is_at (same_key key) old) [ true ↦ None | false ↦ before key ] ]) apart
+    ap (λ b. elim b [ true ↦ Some (filled cells (old_values old before)) | false ↦ elim (is_at (same_key key) old) [ true ↦ None | false ↦ before key ] ]) apart
     ∙ none_either (is_at (same_key key) old) (before key) e
 left_none Nothing key before t table h s e = e
 
