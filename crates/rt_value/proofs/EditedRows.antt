@@ -119,7 +119,7 @@ pub with_rises : (row : Row) (rows : List Row) → is_rising rows ≡ true → i
 with_rises row rows h =
     append_rises (rows_before row.key rows) (rows_behind row.key rows) row (filter_rises (λ r. below r.key row.key) rows h)
     (and_true (list_all (is_after row.key) (rows_behind row.key rows)) (is_rising (rows_behind row.key rows))
-        (all_filtered (is_after row.key) rows) (filter_rises (is_after row.key) rows h))
+    (all_filtered (is_after row.key) rows) (filter_rises (is_after row.key) rows h))
     (all_filtered (λ r. below r.key row.key) rows)
 
 at_equal : (test : Key → Bool) (key : Key) (b : Bool) → test key ≡ b → (row : Row) → same_key key row.key ≡ true → test row.key ≡ b
@@ -199,8 +199,10 @@ unmoved_at (Some old) key rows = removed_at old key rows (same_key key old) refl
 
 put_at : (old : Option Key) (new key : Key) (vs : List Value) (rows : List Row) (b : Bool) → same_key key new ≡ b
     → row_at key (rows_with (row_of new vs) (rows_unmoved old rows))
-    ≡ option_map (row_of key) (elim b as (λ _. Option (List Value)) [ true ↦ Some vs
-        | false ↦ elim (is_at (same_key key) old) as (λ _. Option (List Value)) [ true ↦ None | false ↦ values_at key rows ] ])
+    ≡ option_map (row_of key) (elim b as (λ _. Option (List Value)) [
+      | true ↦ Some vs
+      | false ↦ elim (is_at (same_key key) old) as (λ _. Option (List Value)) [ true ↦ None | false ↦ values_at key rows ]
+    ])
 put_at old new key vs rows true e =
     let same = same_equal key new e in
     ap (λ k. row_at k (rows_with (row_of new vs) (rows_unmoved old rows))) same ∙ with_at (row_of new vs) (rows_unmoved old rows)

@@ -112,7 +112,7 @@ module _ (table : ℕ) (key : Key) where
   none_put [] h = refl
   none_put ((t, edit) ∷ before) h =
       let parts = neither (has key (keys_put table (t, edit))) (has key (flat_map (keys_put table) before))
-          (sym (has_append key (keys_put table (t, edit)) (flat_map (keys_put table) before)) ∙ h) in
+      (sym (has_append key (keys_put table (t, edit)) (flat_map (keys_put table) before)) ∙ h) in
       one_more t edit before (t == table) refl parts.0 (none_put before parts.1)
 
   put_by : (b : Bool) (edits : List TableEdit) (vs : List Value) → has key (flat_map (keys_put table) edits) ≡ b → row_after edits table key ≡ Some vs → b ≡ true

@@ -24,11 +24,11 @@ edited_table before table edit =
     same_rows (tables_after ((table, edit) ∷ before) table) (edited_rows edit rows) (table_rises ((table, edit) ∷ before) table)
     (edited_rises edit rows (table_rises before table))
     (λ key. row_at_table ((table, edit) ∷ before) table key ∙ ap (option_map (row_of key)) (here table edit before key)
-        ∙ (λ i. option_map (row_of key) (left_at edit key (λ j. sym (values_at_table before table j) i)))
-        ∙ sym (edited_at edit key rows))
+    ∙ (λ i. option_map (row_of key) (left_at edit key (λ j. sym (values_at_table before table j) i)))
+    ∙ sym (edited_at edit key rows))
 
 pub other_table : (before : List TableEdit) (table other : ℕ) (edit : Edit) → table ≢ other → tables_after ((table, edit) ∷ before) other ≡ tables_after before other
 other_table before table other edit differ =
     same_rows (tables_after ((table, edit) ∷ before) other) (tables_after before other) (table_rises ((table, edit) ∷ before) other) (table_rises before other)
     (λ key. row_at_table ((table, edit) ∷ before) other key ∙ ap (option_map (row_of key)) (elsewhere table other edit before key differ)
-        ∙ sym (row_at_table before other key))
+    ∙ sym (row_at_table before other key))

@@ -18,15 +18,13 @@ pub fn keys_are_ordered()
     ensures same { (k l : Key) → (same_key k l ≡ true) ↔ (k ≡ l) }
     // In it values stand as they compare.
     ensures compares { (a b : Value) (order : Ordering) → compared a b ≡ Some order → value_cmp a b ≡ order }
-{
-}
+{}
 
 /// An edit leaves the other tables as they are.
 pub fn edit_of_another_table()
     ensures { (before : List TableEdit) (table other : ℕ) (edit : Edit) (key : Key) → table ≢ other →
         row_after ((table, edit) ∷ before) other key ≡ row_after before other key }
-{
-}
+{}
 
 /// What one more put does to the table: at the new key it leaves its cells, those that it does not give from the row
 /// that it moves, and at the old key no row, where that is another.
@@ -37,8 +35,7 @@ pub fn one_more_put()
         row_after ((table, Put (Some old) new cells) ∷ before) table old ≡ None }
     ensures others { (before : List TableEdit) (table : ℕ) (old : Option Key) (new key : Key) (cells : List (Option Value)) →
         key ≢ new → old ≢ Some key → row_after ((table, Put old new cells) ∷ before) table key ≡ row_after before table key }
-{
-}
+{}
 
 /// What one more removal does to the table.
 pub fn one_more_remove()
@@ -46,8 +43,7 @@ pub fn one_more_remove()
         row_after ((table, Remove key) ∷ before) table key ≡ None }
     ensures others { (before : List TableEdit) (table : ℕ) (gone key : Key) → key ≢ gone →
         row_after ((table, Remove gone) ∷ before) table key ≡ row_after before table key }
-{
-}
+{}
 
 /// What a clearing does to the table, and what an edit that does nothing.
 pub fn one_more_clear()
@@ -55,16 +51,14 @@ pub fn one_more_clear()
         row_after ((table, Clear) ∷ before) table key ≡ None }
     ensures nothing { (before : List TableEdit) (table : ℕ) (key : Key) →
         row_after ((table, Nothing) ∷ before) table key ≡ row_after before table key }
-{
-}
+{}
 
 /// The rows of a table after edits: their keys rise strictly, and at each key stands the row that the edits leave there.
 pub fn rows_after_edits()
     ensures rising { (edits : List TableEdit) (table : ℕ) → is_rising (tables_after edits table) ≡ true }
     ensures at_key { (edits : List TableEdit) (table : ℕ) (key : Key) →
         row_at key (tables_after edits table) ≡ option_map (row_of key) (row_after edits table key) }
-{
-}
+{}
 
 /// The tables after one more edit: its table's rows are edited, and the other tables are left as they are.
 pub fn tables_after_one_more()
@@ -72,12 +66,10 @@ pub fn tables_after_one_more()
         tables_after ((table, edit) ∷ before) table ≡ edited_rows edit (tables_after before table) }
     ensures others { (before : List TableEdit) (table other : ℕ) (edit : Edit) → table ≢ other →
         tables_after ((table, edit) ∷ before) other ≡ tables_after before other }
-{
-}
+{}
 
 /// Two lists of rows with strictly rising keys are equal where they have the same row at each key.
 pub fn rows_by_their_keys()
     ensures { (xs ys : List Row) → is_rising xs ≡ true → is_rising ys ≡ true →
         ((key : Key) → row_at key xs ≡ row_at key ys) → xs ≡ ys }
-{
-}
+{}

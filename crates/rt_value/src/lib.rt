@@ -15,6 +15,9 @@ mod reading;
 mod rising;
 mod row;
 mod shared;
+mod sharing;
+#[cfg(test)]
+mod tests;
 mod text;
 mod value;
 
@@ -29,5 +32,6 @@ pub use order::compare;
 pub use reading::{ValueFault, from_text};
 pub use row::{Cells, Key, Row};
 pub use shared::Shared;
+pub use sharing::{data_may_be_shared, lists_may_be_shared, may_share};
 pub use text::Text;
 pub use value::{Kind, Value};
