@@ -4,7 +4,6 @@ use crate::{
 };
 use std::alloc::{AllocError, Global};
 use std::cmp::Ordering;
-use std::process::Abort;
 use std::sync::Arc;
 use std::test::Fail;
 
@@ -114,8 +113,8 @@ fn texts_are_themselves(rt: HostRuntime) -> Result<(), Fail> {
 }
 
 #[test]
-fn values_in_order(rt: HostRuntime) -> Result<(), Fail> {
-    let ordered = [
+fn texts_in_order_of_bytes(rt: HostRuntime) -> Result<(), Fail> {
+    let cases = [
         ("", "a"),
         ("B", "a"),
         ("a", "aa"),
@@ -123,172 +122,160 @@ fn values_in_order(rt: HostRuntime) -> Result<(), Fail> {
         ("z", "\u{e9}"),
         ("10", "9"),
     ];
-    for (less, more) in ordered {
+    for (less, more) in cases {
         let less = Value::Text(text(rt.alloc(), less)?);
         let more = Value::Text(text(rt.alloc(), more)?);
         assert_eq!(rt; compare(&less, &more), Some(Ordering::Less));
         assert_eq!(rt; compare(&more, &less), Some(Ordering::Greater));
-        assert_eq!(rt; compare(&more, &more), Some(Ordering::Equal));
     }
-    assert_eq!(rt;
-        compare(&Value::Int(-2), &Value::Int(1)),
-        Some(Ordering::Less)
-    );
-    assert_eq!(rt;
-        compare(&Value::Bool(false), &Value::Bool(true)),
-        Some(Ordering::Less)
-    );
-    assert_eq!(rt;
-        compare(&Value::Uuid(1 << 127), &Value::Uuid(1)),
-        Some(Ordering::Greater)
-    );
-    assert_eq!(rt; compare(&Value::Null, &Value::Null), None);
-    assert_eq!(rt; compare(&Value::Opaque, &Value::Opaque), None);
-    assert_eq!(rt; compare(&Value::Int(1), &Value::Bool(true)), None);
-    assert!(rt; Value::Null < Value::Int(i64::MIN));
-    assert!(rt; Value::Uuid(u128::MAX) < Value::Opaque);
     Ok(())
 }
 
 #[test]
-fn equal_copies(rt: HostRuntime) -> Result<(), Fail> {
-    let alloc = rt.alloc();
-    let bytes = Bytes::new(vec![in alloc; 0, 255]?).copy(alloc)?;
+fn values_in_order(rt: HostRuntime) {
+    let cases = [
+        (Value::Int(-2), Value::Int(1), Some(Ordering::Less)),
+        (Value::Bool(false), Value::Bool(true), Some(Ordering::Less)),
+        (
+            Value::Uuid(1 << 127),
+            Value::Uuid(1),
+            Some(Ordering::Greater),
+        ),
+        (Value::Int(5), Value::Int(5), Some(Ordering::Equal)),
+        (Value::Null, Value::Null, None),
+        (Value::Opaque, Value::Opaque, None),
+        (Value::Int(1), Value::Bool(true), None),
+    ];
+    for (a, b, want) in &cases {
+        assert_eq!(rt; compare(a, b), *want);
+    }
+}
+
+#[test]
+fn equal_rows(rt: HostRuntime) -> Result<(), Fail> {
+    let copy = row(rt.alloc(), 1, "a")?.copy(rt.alloc())?;
+    let same = row(rt.alloc(), 1, "a")?;
+    assert_eq!(rt; copy.key, same.key);
+    assert_eq!(rt; copy.values.get(), same.values.get());
+    let bytes = Bytes::new(vec![in rt.alloc(); 0, 255]?).copy(rt.alloc())?;
     assert_eq!(rt; bytes.get(), [0, 255].as_slice());
-    assert_eq!(rt; bytes.into_inner().len(), 2);
-    let copy = row(alloc, 1, "a")?.copy(alloc)?;
-    assert_eq!(rt; copy.key, key(alloc, 1)?);
-    assert_eq!(rt; copy.values.get(), row(alloc, 1, "a")?.values.get());
-    let claims = Claims {
+    Ok(())
+}
+
+fn claims(alloc: Global) -> Result<Claims, AllocError> {
+    let name = text(alloc, "org")?;
+    Ok(Claims {
         role: text(alloc, "reader")?,
         sub: Some(7),
         exp: None,
-        members: List::new(vec![in alloc;
-            Claim {
-                name: text(alloc, "org")?,
-                value: None
-            },
-        ]?),
-    };
-    let copy = claims.copy(alloc)?;
-    assert_eq!(rt; copy.role.into_inner().as_str(), "reader");
-    assert_eq!(rt; (copy.sub, copy.exp), (Some(7), None));
-    let members = copy.members.into_inner();
-    assert_eq!(rt; members.len(), 1);
-    assert_eq!(rt; members[0].name.get(), "org");
-    assert!(rt; members[0].value.is_none());
-    let shared = Shared::new(Arc::new(alloc, 7u8)?);
-    assert_eq!(rt; *shared.get(), 7);
-    assert_eq!(rt; *shared.into_inner(), 7);
+        members: List::new(vec![in alloc; Claim { name, value: None }]?),
+    })
+}
+
+#[test]
+fn equal_claims(rt: HostRuntime) -> Result<(), Fail> {
+    let copy = claims(rt.alloc())?.copy(rt.alloc())?;
+    assert_eq!(rt; copy.role.get(), "reader");
+    assert_eq!(rt; copy.sub, Some(7));
+    for claim in copy.members.get() {
+        assert_eq!(rt; claim.name.get(), "org");
+        assert!(rt; claim.value.is_none());
+    }
     Ok(())
 }
 
 /// Adds a row's name, and a blank.
-fn add_name(rt: &impl Abort, names: &mut String, row: &Row) -> Result<(), AllocError> {
-    let values = row.values.get();
-    assert_eq!(rt; values.len(), 2);
-    match &values[1] {
-        Value::Text(name) => names.push_str(name.get())?,
-        value => assert_eq!(rt; *value, Value::Null),
+fn add_name(names: &mut String, row: &Row) -> Result<(), AllocError> {
+    if let Some(Value::Text(name)) = row.values.get().last() {
+        names.push_str(name.get())?;
     }
     names.push(' ')
 }
 
-fn walked(
-    rt: &impl Abort,
-    alloc: Global,
-    tables: &SortedTables,
-    table: u32,
-) -> Result<String, AllocError> {
-    let mut names = String::new(alloc);
-    for row in rows_in(tables, table) {
-        add_name(rt, &mut names, row)?;
-    }
-    Ok(names)
-}
-
-#[test]
-fn tables_in_key_order(rt: HostRuntime) -> Result<(), Fail> {
-    let alloc = rt.alloc();
+fn tables(alloc: Global) -> Result<Option<SortedTables>, AllocError> {
     let rows = vec![in alloc;
         row(alloc, -1, "b")?,
         row(alloc, 3, "a")?,
         row(alloc, 20, "c")?,
     ]?;
     let empty = List::new(Vec::new(alloc));
-    let tables = SortedTables::new(List::new(vec![in alloc; empty, List::new(rows)]?)).ok_or(
-        "rising",
-    )?;
-    assert_eq!(rt; walked(&rt, alloc, &tables, 0)?.as_str(), "");
-    assert_eq!(rt; walked(&rt, alloc, &tables, 1)?.as_str(), "b a c ");
-    assert_eq!(rt; walked(&rt, alloc, &tables, 2)?.as_str(), "");
-    let first = tables.first(1).ok_or("a first row")?;
-    assert_eq!(rt; first.key, key(alloc, -1)?);
-    let next = tables.after(1, &first.key).ok_or("a next row")?;
-    assert_eq!(rt; next.key, key(alloc, 3)?);
-    assert!(rt; tables.after(1, &key(alloc, 20)?).is_none());
-    let twice = vec![in alloc; row(alloc, 3, "a")?, row(alloc, 3, "b")?]?;
-    assert!(rt; SortedTables::new(List::new(vec![in alloc; List::new(twice)]?)).is_none());
-    Ok(())
-}
-
-fn after(
-    rt: &impl Abort,
-    alloc: Global,
-    rows: List<Row>,
-    edit: Edit,
-) -> Result<(List<Row>, String), AllocError> {
-    let rows = edited(alloc, rows.get(), &edit)?;
-    let mut names = String::new(alloc);
-    for row in rows.get() {
-        add_name(rt, &mut names, row)?;
-    }
-    Ok((rows, names))
+    Ok(SortedTables::new(List::new(vec![in alloc; empty, List::new(rows)]?)))
 }
 
 #[test]
+fn tables_in_key_order(rt: HostRuntime) -> Result<(), Fail> {
+    let tables = tables(rt.alloc())?.ok_or("rising keys")?;
+    for (table, want) in [(0, ""), (1, "b a c "), (2, "")] {
+        let mut names = String::new(rt.alloc());
+        for row in rows_in(&tables, table) {
+            add_name(&mut names, row)?;
+        }
+        assert_eq!(rt; names.as_str(), want);
+    }
+    let first = tables.first(1).ok_or("a first row")?;
+    let next = tables.after(1, &first.key).ok_or("a next row")?;
+    assert_eq!(rt; next.key, key(rt.alloc(), 3)?);
+    Ok(())
+}
+
+#[test]
+fn equal_keys_do_not_rise(rt: HostRuntime) -> Result<(), Fail> {
+    let rows = vec![in rt.alloc(); row(rt.alloc(), 3, "a")?, row(rt.alloc(), 3, "b")?]?;
+    let tables = List::new(vec![in rt.alloc(); List::new(rows)]?);
+    assert!(rt; SortedTables::new(tables).is_none());
+    Ok(())
+}
+
+/// A put that gives the key column alone.
+fn put(alloc: Global, old: Option<Key>, new: i64) -> Result<Edit, AllocError> {
+    let cells = List::new(vec![in alloc; Some(Value::Int(new)), None]?);
+    let new = key(alloc, new)?;
+    Ok(Edit::Put { old, new, cells })
+}
+
+fn edits(alloc: Global) -> Result<Vec<Edit>, AllocError> {
+    let moved = put(alloc, Some(key(alloc, 1)?), 5)?;
+    let fresh = put(alloc, None, 4)?;
+    let removed = Edit::Remove {
+        key: key(alloc, 3)?,
+    };
+    Ok(vec![in alloc; moved, fresh, removed, Edit::Nothing, Edit::Clear]?)
+}
+
+/// The first edit moves a row with its name, the second finds no row to take a name from.
+#[test]
 fn edits_of_a_table(rt: HostRuntime) -> Result<(), Fail> {
-    let alloc = rt.alloc();
-    let rows = List::new(vec![in alloc; row(alloc, 1, "a")?, row(alloc, 3, "c")?]?);
-    // The row moves, with the name that is not given.
-    let cells = List::new(vec![in alloc; Some(Value::Int(5)), None]?);
-    let edit = Edit::Put {
-        old: Some(key(alloc, 1)?),
-        new: key(alloc, 5)?,
-        cells,
-    };
-    let (rows, names) = after(&rt, alloc, rows, edit)?;
-    assert_eq!(rt; names.as_str(), "c a ");
-    // There is no row to take it from.
-    let cells = List::new(vec![in alloc; Some(Value::Int(4)), None]?);
-    let edit = Edit::Put {
-        old: None,
-        new: key(alloc, 4)?,
-        cells,
-    };
-    let (rows, names) = after(&rt, alloc, rows, edit)?;
-    assert_eq!(rt; names.as_str(), "c  a ");
-    let (rows, names) = after(
-        &rt,
-        alloc,
-        rows,
-        Edit::Remove {
-            key: key(alloc, 3)?,
-        },
-    )?;
-    assert_eq!(rt; names.as_str(), " a ");
-    let (rows, names) = after(&rt, alloc, rows, Edit::Nothing)?;
-    assert_eq!(rt; names.as_str(), " a ");
-    let (_rows, names) = after(&rt, alloc, rows, Edit::Clear)?;
-    assert_eq!(rt; names.as_str(), "");
-    let values = fill(
-        alloc,
-        &[None, Some(Value::Bool(true)), None],
-        &[Value::Int(1)],
-    )?;
+    let mut rows = List::new(vec![in rt.alloc();
+        row(rt.alloc(), 1, "a")?,
+        row(rt.alloc(), 3, "c")?,
+    ]?);
+    let edits = edits(rt.alloc())?;
+    for (edit, want) in edits.iter().zip(["c a ", "c  a ", " a ", " a ", ""]) {
+        rows = edited(rt.alloc(), rows.get(), edit)?;
+        let mut names = String::new(rt.alloc());
+        for row in rows.get() {
+            add_name(&mut names, row)?;
+        }
+        assert_eq!(rt; names.as_str(), want);
+    }
+    Ok(())
+}
+
+#[test]
+fn cells_of_a_row_before(rt: HostRuntime) -> Result<(), Fail> {
+    let cells = [None, Some(Value::Bool(true)), None];
+    let values = fill(rt.alloc(), &cells, &[Value::Int(1)])?;
     assert_eq!(rt;
         values.get(),
         [Value::Int(1), Value::Bool(true), Value::Null].as_slice()
     );
+    Ok(())
+}
+
+#[test]
+fn a_shared_value(rt: HostRuntime) -> Result<(), Fail> {
+    let shared = Shared::new(Arc::new(rt.alloc(), 7u8)?);
+    assert_eq!(rt; *shared.get(), 7);
+    assert_eq!(rt; *shared.into_inner(), 7);
     Ok(())
 }
