@@ -1,5 +1,5 @@
 -- An edit of rows in the order of their keys leaves at each key what it says, and the rows in that order.
-use Rattle.std.proofs.Common.{◌≡◌, ◌≢◌, ℕ, Bool, true, false, ◌&&◌, not, cond, List, [], ◌∷◌, ◌++◌, Option, Some, None, option_map, filter, refl, ap, sym, ◌∙◌}
+use Rattle.std.proofs.Common.{◌≡◌, Bool, true, false, not, cond, List, [], ◌∷◌, ◌++◌, Option, Some, None, option_map, filter, refl, ap, sym, ◌∙◌}
 use Rattle.std.specs.List.{list_all}
 use Rattle.std.specs.Cmp.{first_so, second_so}
 use Rattle.std.specs.Ordering.{is_lt}
@@ -14,9 +14,9 @@ use Rattle.rt_value.specs.Choice.{is_at}
 use Rattle.rt_value.specs.Order.{key_cmp, same_key}
 use Rattle.rt_value.specs.Rows.{is_after, rows_behind, is_rising, row_at, values_at, rows_without, rows_before, rows_with}
 use Rattle.rt_value.specs.Edits.{filled, old_values, left_at, row_of, is_gone, rows_unmoved, edited_rows}
-use Rattle.rt_value.proofs.Ties.{key_ties, same_itself, same_equal, same_from}
+use Rattle.rt_value.proofs.Ties.{key_ties, same_equal, same_from}
 use Rattle.rt_value.proofs.KeyOrder.{below, not_below_itself, not_below_back, below_by_greater, and_true, all_beyond}
-use Rattle.rt_value.proofs.SameRows.{at_front, behind_front, none_below}
+use Rattle.rt_value.proofs.SameRows.{at_front, behind_front}
 
 -- ---- filters of rows
 

@@ -1,5 +1,5 @@
 -- What `parse` gives of a whole number is the number that the definition reads.
-use Rattle.std.proofs.Common.{◌≡◌, ℕ, ◌<◌, ◌≤◌, Bool, true, false, ◌&&◌, List, [], ◌∷◌, length, ℤ, pos, negsuc, Option, Some, None, Result, Ok, Err, refl, arith, w16, w32, w64, ap, sym, ◌∙◌}
+use Rattle.std.proofs.Common.{◌≡◌, ℕ, ◌<◌, ◌≤◌, Bool, true, false, ◌&&◌, List, length, ℤ, pos, negsuc, Some, Result, Ok, Err, refl, arith, w16, w32, w64, ap, sym, ◌∙◌}
 use Rattle.std.specs.Bool.{Decides}
 use Rattle.std.specs.Prelude.{nat_lt, FitsSigned}
 use Rattle.std.specs.Result.{OkIff, result_ok}

@@ -1,10 +1,10 @@
 -- What one more edit does to the rows.
-use Rattle.std.proofs.Common.{◌≡◌, ◌≢◌, ℕ, Bool, true, false, ◌==◌, List, [], ◌∷◌, Option, Some, None, refl, ap, sym, ◌∙◌}
+use Rattle.std.proofs.Common.{◌≡◌, ◌≢◌, ℕ, Bool, true, false, ◌==◌, List, ◌∷◌, Option, Some, None, refl, ap, sym, ◌∙◌}
 use Rattle.std.specs.Cmp.{unsigned_Decides}
 use Rattle.rt_value.specs.declared.value.Value.{Value}
 use Rattle.rt_value.specs.declared.row.Key.{Key}
 use Rattle.rt_value.specs.declared.edit.Edit.{Edit}
-use Rattle.rt_value.specs.declared.edit.Edit.TheVariants.{Put, Remove, Clear, Nothing}
+use Rattle.rt_value.specs.declared.edit.Edit.TheVariants.{Put, Remove}
 use Rattle.rt_value.specs.Choice.{is_at}
 use Rattle.rt_value.specs.Order.{same_key}
 use Rattle.rt_value.specs.Edits.{TableEdit, filled, old_values, left_at, row_after}

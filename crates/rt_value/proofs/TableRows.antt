@@ -1,6 +1,6 @@
 -- The rows of a table after edits rise, and at each key stands the row that the edits leave there.
-use Rattle.std.proofs.Common.{◌≡◌, ℕ, Bool, true, false, ◌==◌, ◌&&◌, ◌||◌, cond, List, [], ◌∷◌, ◌++◌, Option, Some, None, option_map, refl, ap, sym, ◌∙◌}
-use Rattle.std.specs.List.{list_all, list_any, filter_map, flat_map, cons_option}
+use Rattle.std.proofs.Common.{◌≡◌, ℕ, Bool, true, false, ◌==◌, ◌||◌, cond, List, [], ◌∷◌, ◌++◌, Option, Some, None, option_map, refl, ap, sym, ◌∙◌}
+use Rattle.std.specs.List.{list_all, filter_map, flat_map, cons_option}
 use Rattle.std.specs.Cmp.{first_so, second_so}
 use Rattle.rt_value.specs.declared.value.Value.{Value}
 use Rattle.rt_value.specs.declared.row.Key.{Key}

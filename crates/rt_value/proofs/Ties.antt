@@ -1,5 +1,5 @@
 -- Values that tie in the order of keys are equal, and so are such keys.
-use Rattle.std.proofs.Common.{◌≡◌, ℕ, zero, suc, Bool, true, false, List, [], ◌∷◌, ℤ, Option, Some, refl, ap, sym, ◌∙◌}
+use Rattle.std.proofs.Common.{◌≡◌, ℕ, zero, suc, Bool, true, false, List, [], ◌∷◌, ℤ, Some, refl, ap, sym, ◌∙◌}
 use Rattle.std.specs.Cmp.{unsigned_tied, unsigned_Decides, signed_Decides, tied_itself, Equal-is}
 use Rattle.std.specs.Cmp.Lexicographic.{slice_cmp}
 use Rattle.std.specs.Ordering.{nat_cmp, int_cmp, bool_cmp, ordering_then, is_eq}

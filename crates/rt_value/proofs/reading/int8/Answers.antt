@@ -1,4 +1,4 @@
-use Rattle.std.proofs.Common.{◌≡◌, ℤ, Ok, Err, FitsSigned, w64, arith}
+use Rattle.std.proofs.Common.{ℤ, Ok, Err, FitsSigned, w64, arith}
 use Rattle.std.proofs.lemmas.Int.{ints, to_z-of_z}
 use Rattle.rt_value.proofs.Numerals.{int_read, fits_64}
 use Rattle.rt_value.proofs.reading.int8.Goals as goal
