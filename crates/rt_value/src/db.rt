@@ -23,7 +23,8 @@ pub trait Db {
     ghost rising: { (db : Self) (table : ℕ) → is_rising (rows db table) ≡ true };
 }
 
-/// An iterator over the rows of a table in the order of the keys. Contracts see the rows that are left.
+/// An iterator over the rows of a table in the order of the keys. Contracts see the rows that are
+/// left.
 #[derive(Drop)]
 pub struct Walk<'a, D: Db> {
     db: &'a D,

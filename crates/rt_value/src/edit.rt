@@ -3,8 +3,8 @@ use crate::{Cells, Key};
 /// What a change does to its table.
 #[derive(Debug, Drop)]
 pub enum Edit {
-    /// Puts a row at the key `new`. A row at the key `old` is moved there; the cells that are not given are those of
-    /// that row, and null where there is none.
+    /// Puts a row at the key `new`. A row at the key `old` is moved there; the cells that are not
+    /// given are those of that row, and null where there is none.
     Put {
         old: Option<Key>,
         new: Key,

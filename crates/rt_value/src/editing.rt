@@ -7,8 +7,8 @@ ghost use Rattle.rt_value.specs.Edits.{filled, old_values, is_gone, row_of, rows
 use crate::{Edit, Key, List, Row, Value};
 use std::alloc::{AllocError, Global};
 
-/// The rows of a table after an edit, copied from those before it, which stand in the order of their keys. Fails for
-/// want of memory alone.
+/// The rows of a table after an edit, copied from those before it, which stand in the order of
+/// their keys. Fails for want of memory alone.
 pub fn edited(alloc: Global, rows: &[Row], edit: &Edit) -> Result<List<Row>, AllocError>
     ensures { IfOk result (λ after. after ≡ edited_rows edit.now rows.now) }
 {
@@ -24,8 +24,8 @@ pub fn edited(alloc: Global, rows: &[Row], edit: &Edit) -> Result<List<Row>, All
     }
 }
 
-/// The values that a put gives its row: those of the cells, and for an absent cell that of the row before, or null
-/// where it has none. Fails for want of memory alone.
+/// The values that a put gives its row: those of the cells, and for an absent cell that of the row
+/// before, or null where it has none. Fails for want of memory alone.
 pub fn fill(
     alloc: Global,
     cells: &[Option<Value>],
@@ -46,7 +46,8 @@ fn value_or(
     cell: &Option<Value>,
     before: Option<&Value>,
 ) -> Result<Value, AllocError>
-    ensures { IfOk result (λ value. value ≡ unwrap_or cell.now (unwrap_or (option_copied before.entry) null)) }
+    ensures { IfOk result (λ value.
+        value ≡ unwrap_or cell.now (unwrap_or (option_copied before.entry) null)) }
 {
     match cell {
         Some(value) => value.copy(alloc),

@@ -1,4 +1,5 @@
-//! Laws of the definitions, for the proofs of the crates above. Each is a function with an empty body.
+//! Laws of the definitions, for the proofs of the crates above. Each is a function with an empty
+//! body.
 
 ghost use Rattle.std.specs.Prelude.{◌≡◌, ◌≢◌, ◌↔◌, ℕ, true, ◌∷◌, List, Option, None, Some, option_map};
 ghost use Rattle.std.specs.Cmp.{IsTotalOrder};
@@ -17,24 +18,27 @@ pub fn keys_are_ordered()
     ensures total { IsTotalOrder key_cmp }
     ensures same { (k l : Key) → (same_key k l ≡ true) ↔ (k ≡ l) }
     // In it values stand as they compare.
-    ensures compares { (a b : Value) (order : Ordering) → compared a b ≡ Some order → value_cmp a b ≡ order }
+    ensures compares { (a b : Value) (order : Ordering) →
+        compared a b ≡ Some order → value_cmp a b ≡ order }
 {}
 
 /// An edit leaves the other tables as they are.
 pub fn edit_of_another_table()
-    ensures { (before : List TableEdit) (table other : ℕ) (edit : Edit) (key : Key) → table ≢ other →
-        row_after ((table, edit) ∷ before) other key ≡ row_after before other key }
+    ensures { (before : List TableEdit) (table other : ℕ) (edit : Edit) (key : Key) →
+        table ≢ other → row_after ((table, edit) ∷ before) other key ≡ row_after before other key }
 {}
 
-/// What one more put does to the table: at the new key it leaves its cells, those that it does not give from the row
-/// that it moves, and at the old key no row, where that is another.
+/// What one more put does to the table: at the new key it leaves its cells, those that it does not
+/// give from the row that it moves, and at the old key no row, where that is another.
 pub fn one_more_put()
     ensures new { (before : List TableEdit) (table : ℕ) (old : Option Key) (new : Key) (cells : List (Option Value)) →
-        row_after ((table, Put old new cells) ∷ before) table new ≡ Some (filled cells (old_values old (row_after before table))) }
-    ensures moved { (before : List TableEdit) (table : ℕ) (old new : Key) (cells : List (Option Value)) → old ≢ new →
-        row_after ((table, Put (Some old) new cells) ∷ before) table old ≡ None }
+        row_after ((table, Put old new cells) ∷ before) table new
+        ≡ Some (filled cells (old_values old (row_after before table))) }
+    ensures moved { (before : List TableEdit) (table : ℕ) (old new : Key) (cells : List (Option Value)) →
+        old ≢ new → row_after ((table, Put (Some old) new cells) ∷ before) table old ≡ None }
     ensures others { (before : List TableEdit) (table : ℕ) (old : Option Key) (new key : Key) (cells : List (Option Value)) →
-        key ≢ new → old ≢ Some key → row_after ((table, Put old new cells) ∷ before) table key ≡ row_after before table key }
+        key ≢ new → old ≢ Some key →
+        row_after ((table, Put old new cells) ∷ before) table key ≡ row_after before table key }
 {}
 
 /// What one more removal does to the table.
@@ -53,14 +57,17 @@ pub fn one_more_clear()
         row_after ((table, Nothing) ∷ before) table key ≡ row_after before table key }
 {}
 
-/// The rows of a table after edits: their keys rise strictly, and at each key stands the row that the edits leave there.
+/// The rows of a table after edits: their keys rise strictly, and at each key stands the row that
+/// the edits leave there.
 pub fn rows_after_edits()
-    ensures rising { (edits : List TableEdit) (table : ℕ) → is_rising (tables_after edits table) ≡ true }
+    ensures rising { (edits : List TableEdit) (table : ℕ) →
+        is_rising (tables_after edits table) ≡ true }
     ensures at_key { (edits : List TableEdit) (table : ℕ) (key : Key) →
         row_at key (tables_after edits table) ≡ option_map (row_of key) (row_after edits table key) }
 {}
 
-/// The tables after one more edit: its table's rows are edited, and the other tables are left as they are.
+/// The tables after one more edit: its table's rows are edited, and the other tables are left as
+/// they are.
 pub fn tables_after_one_more()
     ensures edited { (before : List TableEdit) (table : ℕ) (edit : Edit) →
         tables_after ((table, edit) ∷ before) table ≡ edited_rows edit (tables_after before table) }

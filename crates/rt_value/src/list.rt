@@ -43,7 +43,8 @@ impl<T> List<T> {
         inner
     }
 
-    /// An equal list, of the copies that `copy` makes of the elements. Fails for want of memory alone.
+    /// An equal list, of the copies that `copy` makes of the elements. Fails for want of memory
+    /// alone.
     pub fn copy_by<F: Fn(&T) -> Result<T, AllocError>>(
         &self,
         alloc: Global,

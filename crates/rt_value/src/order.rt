@@ -4,8 +4,8 @@ ghost use Rattle.rt_value.specs.Order.{compared, variant_of};
 use crate::{Key, Value};
 use std::cmp::Ordering;
 
-/// The order of two values: whole numbers and uuids by value, texts by bytes, false before true. `None` where one is
-/// null or opaque, or the two are not of one variant.
+/// The order of two values: whole numbers and uuids by value, texts by bytes, false before true.
+/// `None` where one is null or opaque, or the two are not of one variant.
 pub fn compare(a: &Value, b: &Value) -> Option<Ordering>
     ensures { result ≡ compared a.now b.now }
 {
@@ -70,8 +70,8 @@ impl PartialOrd for Value {
     }
 }
 
-/// A total order for the values of keys: by the variant, in which null stands first, and then by the value. What a
-/// policy or filter says of two values is `compare`.
+/// A total order for the values of keys: by the variant, in which null stands first, and then by
+/// the value. What a policy or filter says of two values is `compare`.
 impl Ord for Value {
     ghost use Rattle.std.specs.Prelude.{refl};
     ghost use Rattle.rt_value.specs.Order.{value_cmp};

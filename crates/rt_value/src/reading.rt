@@ -24,9 +24,9 @@ impl From<AllocError> for ValueFault {
     }
 }
 
-/// The value that a text has in a kind. Whole numbers are an optional `+` or `-` and one or more digits, in the range
-/// of the kind; truth values are `t`, `true`, `f` and `false`; a uuid is in any form that the crate `uuid` reads; a
-/// text is itself.
+/// The value that a text has in a kind. Whole numbers are an optional `+` or `-` and one or more
+/// digits, in the range of the kind; truth values are `t`, `true`, `f` and `false`; a uuid is in
+/// any form that the crate `uuid` reads; a text is itself.
 ///
 /// `BadText` where the text has no value in the kind, which is each text where the kind is opaque.
 pub fn from_text(alloc: Global, kind: Kind, text: &str) -> Result<Value, ValueFault>
