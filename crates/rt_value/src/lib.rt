@@ -1,12 +1,37 @@
-//! Texts, bytes and lists that contracts see as what they hold.
+//! Values, rows, edits and claims: the data that every crate above speaks of.
 #![tactic(auto)]
 
 mod bytes;
+mod claims;
+mod copying;
+mod db;
+mod edit;
+mod editing;
+pub mod laws;
 mod list;
+mod memory;
+mod order;
+mod reading;
+mod rising;
+mod row;
 mod shared;
+mod sharing;
+#[cfg(test)]
+mod tests;
 mod text;
+mod value;
 
 pub use bytes::Bytes;
+pub use claims::{Claim, Claims};
+pub use db::{Db, Walk, rows_in};
+pub use edit::Edit;
+pub use editing::{edited, fill};
 pub use list::List;
+pub use memory::SortedTables;
+pub use order::compare;
+pub use reading::{ValueFault, from_text};
+pub use row::{Cells, Key, Row};
 pub use shared::Shared;
+pub use sharing::{data_may_be_shared, lists_may_be_shared, may_share};
 pub use text::Text;
+pub use value::{Kind, Value};

@@ -1,5 +1,6 @@
-ghost use Rattle.std.specs.Prelude.{◌≡◌};
+ghost use Rattle.std.specs.Prelude.{◌≡◌, IfOk};
 
+use std::alloc::{AllocError, Global};
 use std::marker::Model;
 
 /// A `Vec` that contracts see as the list of its elements.
@@ -40,5 +41,26 @@ impl<T> List<T> {
     {
         let List { inner } = self;
         inner
+    }
+
+    /// An equal list, of the copies that `copy` makes of the elements. Fails for want of memory
+    /// alone.
+    pub fn copy_by<F: Fn(&T) -> Result<T, AllocError>>(
+        &self,
+        alloc: Global,
+        copy: F,
+    ) -> Result<Self, AllocError>
+    where
+        T: Drop,
+        F: Drop,
+        requires callable { F.IsAlwaysCallable copy }
+        requires equal { (x : _) (r : _) → F.post copy x r → IfOk r (λ y. y ≡ x.now) }
+        ensures { IfOk result (λ l. l ≡ self.now) }
+    {
+        let mut inner = Vec::with_capacity(alloc, self.inner.len())?;
+        for x in &self.inner {
+            inner.push(copy(x)?)?;
+        }
+        Ok(List { inner })
     }
 }
