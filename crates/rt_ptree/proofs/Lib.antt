@@ -1,4 +1,4 @@
 pub mod Order
 pub mod Middle
 pub mod Places
-pub mod Bounds
+pub mod Updates

@@ -16,9 +16,9 @@ module _ {K V : Type 0} (cmp : K → K → Ordering) (k : K) where
   insert_entry-front v [] (e ∷ c) above = rw above.0
   insert_entry-front v (e ∷ m) c above =
       elim (cmp k e.0) as (λ r. match_ordering r ((k, v) ∷ e ∷ (m ++ c)) ((e.0, v) ∷ (m ++ c)) (e ∷ insert_entry cmp (m ++ c) k v) ≡ match_ordering r ((k, v) ∷ e ∷ m) ((e.0, v) ∷ m) (e ∷ insert_entry cmp m k v) ++ c) [
-      | Less ↦ refl
-      | Equal ↦ refl
-      | Greater ↦ ap (λ z. e ∷ z) (insert_entry-front v m c above)
+        | Less ↦ refl
+        | Equal ↦ refl
+        | Greater ↦ ap (λ z. e ∷ z) (insert_entry-front v m c above)
       ]
 
   pub insert_entry-middle : (v : V) (a m c : List (K × V)) → IsBelow cmp a k → IsAbove cmp c k → insert_entry cmp (a ++ (m ++ c)) k v ≡ a ++ (insert_entry cmp m k v ++ c)
@@ -33,9 +33,9 @@ module _ {K V : Type 0} (cmp : K → K → Ordering) (k : K) where
   without_key-front [] c above = without_key-above c above
   without_key-front (e ∷ m) c above =
       elim (cmp k e.0) as (λ r. cond (is_eq r) (m ++ c) (e ∷ without_key cmp (m ++ c) k) ≡ cond (is_eq r) m (e ∷ without_key cmp m k) ++ c) [
-      | Less ↦ ap (λ z. e ∷ z) (without_key-front m c above)
-      | Equal ↦ refl
-      | Greater ↦ ap (λ z. e ∷ z) (without_key-front m c above)
+        | Less ↦ ap (λ z. e ∷ z) (without_key-front m c above)
+        | Equal ↦ refl
+        | Greater ↦ ap (λ z. e ∷ z) (without_key-front m c above)
       ]
 
   pub without_key-middle : (a m c : List (K × V)) → IsBelow cmp a k → IsAbove cmp c k → without_key cmp (a ++ (m ++ c)) k ≡ a ++ (without_key cmp m k ++ c)
@@ -50,9 +50,9 @@ module _ {K V : Type 0} (cmp : K → K → Ordering) (k : K) where
   value_at-front [] c above = value_at-above c above
   value_at-front (e ∷ m) c above =
       elim (cmp k e.0) as (λ r. cond (is_eq r) (Some e.1) (value_at cmp (m ++ c) k) ≡ cond (is_eq r) (Some e.1) (value_at cmp m k)) [
-      | Less ↦ value_at-front m c above
-      | Equal ↦ refl
-      | Greater ↦ value_at-front m c above
+        | Less ↦ value_at-front m c above
+        | Equal ↦ refl
+        | Greater ↦ value_at-front m c above
       ]
 
   pub value_at-middle : (a m c : List (K × V)) → IsBelow cmp a k → IsAbove cmp c k → value_at cmp (a ++ (m ++ c)) k ≡ value_at cmp m k
@@ -64,9 +64,9 @@ module _ {K V : Type 0} (cmp : K → K → Ordering) (k : K) where
   entry_after-front [] (e ∷ c) above = rw above.0
   entry_after-front (e ∷ m) c above =
       elim (cmp k e.0) as (λ r. cond (is_lt r) (Some e) (entry_after cmp (m ++ c) k) ≡ option_or (cond (is_lt r) (Some e) (entry_after cmp m k)) (slice_get c 0)) [
-      | Less ↦ refl
-      | Equal ↦ entry_after-front m c above
-      | Greater ↦ entry_after-front m c above
+        | Less ↦ refl
+        | Equal ↦ entry_after-front m c above
+        | Greater ↦ entry_after-front m c above
       ]
 
   -- an entry after k is in the middle piece, or else the first of the last piece
@@ -79,7 +79,7 @@ module _ {K V : Type 0} (cmp : K → K → Ordering) (k : K) where
   without_key-absent [] absent = refl
   without_key-absent (e ∷ es) absent =
       elim (cmp k e.0) as (λ r. is_some (cond (is_eq r) (Some e.1) (value_at cmp es k)) ≡ false → cond (is_eq r) es (e ∷ without_key cmp es k) ≡ e ∷ es) [
-      | Less ↦ λ h. ap (λ z. e ∷ z) (without_key-absent es h)
-      | Equal ↦ λ h. cc
-      | Greater ↦ λ h. ap (λ z. e ∷ z) (without_key-absent es h)
+        | Less ↦ λ h. ap (λ z. e ∷ z) (without_key-absent es h)
+        | Equal ↦ λ h. cc
+        | Greater ↦ λ h. ap (λ z. e ∷ z) (without_key-absent es h)
       ] absent

@@ -44,7 +44,7 @@ module _ {K V : Type 0} where
       | Less ↦ (all.0, all_without P k es all.1)
       | Equal ↦ all.1
       | Greater ↦ (all.0, all_without P k es all.1)
-      ]
+    ]
 
     all_insert : (P : K → Type 0) (k : K) (v : V) (es : List (K × V)) → P k → AllByRecursion P (keys_of es) → AllByRecursion P (keys_of (insert_entry cmp es k v))
     all_insert P k v [] here all = (here, tt)
@@ -52,7 +52,7 @@ module _ {K V : Type 0} where
       | Less ↦ (here, all)
       | Equal ↦ all
       | Greater ↦ (all.0, all_insert P k v es here all.1)
-      ]
+    ]
 
     pub IsRising-without : (k : K) (es : List (K × V)) → IsRising cmp es → IsRising cmp (without_key cmp es k)
     unfolding IsStrictlySortedBy
@@ -61,7 +61,7 @@ module _ {K V : Type 0} where
       | Less ↦ (all_without _ k es rising.0, IsRising-without k es rising.1)
       | Equal ↦ rising.1
       | Greater ↦ (all_without _ k es rising.0, IsRising-without k es rising.1)
-      ]
+    ]
 
     -- a removal takes away one entry where the key is there
     pub length-without : (k : K) (es : List (K × V)) → length (without_key cmp es k) + (if is_some (value_at cmp es k) then 1 else 0) ≡ length es
@@ -70,7 +70,7 @@ module _ {K V : Type 0} where
       | Less ↦ omega (arith, length-without k es)
       | Equal ↦ omega arith
       | Greater ↦ omega (arith, length-without k es)
-      ]
+    ]
 
 module _ {K : Type 0} {cmp : K → K → Ordering} (o : IsTotalOrder cmp) where
   above-below : (x y : K) → cmp x y ≡ Less → cmp y x ≡ Greater

@@ -3,7 +3,7 @@ use Rattle.std.proofs.Common.{◌≡◌, ℕ, ◌+◌, ◌<◌, All, Some, false
 use Rattle.std.specs.declared.cmp.Ordering.{Ordering}
 use Rattle.std.specs.Cmp.{IsTotalOrder}
 use Rattle.std.specs.Ordering.{is_lt}
-use Rattle.std.proofs.lemmas.List.{take-append-drop, drop_more}
+use Rattle.std.proofs.lemmas.List.{append-nil, take-append-drop, drop_more}
 use Rattle.std.proofs.lemmas.List.Concat.{flat_map-append}
 use Rattle.std.specs.BTreeMap.{insert_entry}
 use Rattle.std.specs.Option.{option_or}
@@ -15,6 +15,10 @@ use Rattle.rt_ptree.proofs.Order.{IsRising-left, IsRising-right, IsAbove-from_fi
 pub first-append : {E : Type 0} (xs ys : List E) (e : E) → slice_get xs 0 ≡ Some e → slice_get (xs ++ ys) 0 ≡ Some e
 first-append [] ys e first = cc
 first-append (x ∷ xs) ys e first = first
+
+-- the entries of a list that is cut into halves
+pub flat_map-halves : {C E : Type 0} (f : C → List E) (n : ℕ) (parts : List C) → flat_map f (take n parts) ++ (flat_map f (drop n parts) ++ []) ≡ flat_map f parts
+flat_map-halves f n parts = ap (λ ys. flat_map f (take n parts) ++ ys) (append-nil (flat_map f (drop n parts))) ∙ sym (flat_map-append f (take n parts) (drop n parts)) ∙ ap (flat_map f) (take-append-drop n parts)
 
 module _ {C E : Type 0} (f : C → List E) (parts : List C) (i : ℕ) (x : C) (within : i < length parts) (read : x ≡ get_or parts i x) where
   pub drop-at : drop i parts ≡ x ∷ drop (i + 1) parts

@@ -1,5 +1,5 @@
 -- An ordered map as the list of its entries, each a key and its value.
-use Rattle.std.specs.Prelude.{◌≡◌, List, Option, Some, None, find, option_map}
+use Rattle.std.specs.Prelude.{◌≡◌, List, Option, Some, None, find, option_map, if◌then◌else◌}
 use Rattle.std.specs.declared.cmp.Ordering.{Ordering}
 use Rattle.std.specs.declared.cmp.Ordering.TheVariants.{Less, Greater}
 use Rattle.std.specs.BTreeMap.{is_at}
@@ -25,6 +25,10 @@ module _ {K V : Type 0} (cmp : K → K → Ordering) where
   -- the entries but for that at the key k
   abbrev pub without_key : List (K × V) → K → List (K × V)
   without_key es k = remove_entry (is_at (cmp k)) es
+
+  -- new has at the key k what w says, and at each other key what old has
+  abbrev pub Updates : List (K × V) → List (K × V) → K → Option V → Type 0
+  Updates old new k w = (q : K) → value_at new q ≡ (if is_at (cmp k) q then w else value_at old q)
 
   -- each key is below k
   abbrev pub IsBelow : List (K × V) → K → Type 0

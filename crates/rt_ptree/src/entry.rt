@@ -54,7 +54,12 @@ impl<K: Ord + Drop, V: Drop> Part<K, V> for Entry<K, V> {
         }
     }
 
-    fn with_entry(&self, _alloc: Global, key: &Arc<K>, value: &Arc<V>) -> Result<Pieces<Self>, AllocError> {
+    fn with_entry(
+        &self,
+        _alloc: Global,
+        key: &Arc<K>,
+        value: &Arc<V>,
+    ) -> Result<Pieces<Self>, AllocError> {
         match (**key).cmp(&self.key) {
             Ordering::Less => Ok(Pieces::Two(Entry::of(key, value)?, self.share()?)),
             Ordering::Equal => Ok(Pieces::One(Entry::of(&self.key, value)?)),

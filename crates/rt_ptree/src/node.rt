@@ -26,10 +26,14 @@ impl<C: Drop> Node<C> {
 }
 
 // A list as a node, as none where it is empty, or as two halves where it is one part too long.
-fn cut<C: Drop>(alloc: Global, mut parts: Vec<C>) -> Result<Pieces<Arc<Node<C>>>, AllocError>
-    requires { vec_len parts ≤ 129 }
-    ensures joined { IfOk result (λ p. flat_map node_parts (pieces_list p) ≡ parts.items) }
-    ensures bounds { IfOk result (λ p. All HasBounds (pieces_list p)) }
+fn cut<K: Ord, V, C: Part<K, V>>(
+    alloc: Global,
+    mut parts: Vec<C>,
+) -> Result<Pieces<Arc<Node<C>>>, AllocError>
+    requires len { vec_len parts ≤ 129 }
+    requires fits { All C.is_fit parts.items }
+    ensures entries { IfOk result (λ p. flat_map (node_list C.entries) (pieces_list p) ≡ flat_map C.entries parts.items) }
+    ensures fits { IfOk result (λ p. All (IsFitNode C.is_fit) (pieces_list p)) }
 {
     if parts.is_empty() {
         return Ok(Pieces::None);
@@ -63,7 +67,12 @@ impl<K: Ord, V, C: Part<K, V>> Part<K, V> for Arc<Node<C>> {
         after_in(&self.parts, key)
     }
 
-    fn with_entry(&self, alloc: Global, key: &Arc<K>, value: &Arc<V>) -> Result<Pieces<Self>, AllocError> {
+    fn with_entry(
+        &self,
+        alloc: Global,
+        key: &Arc<K>,
+        value: &Arc<V>,
+    ) -> Result<Pieces<Self>, AllocError> {
         cut(alloc, with_entry_in(alloc, &self.parts, key, value)?)
     }
 

@@ -47,7 +47,12 @@ pub trait Part<K: Ord, V>: Drop {
         requires rising { IsRising K.cmp (entries self.now) }
         ensures { entry_lent result ≡ entry_after K.cmp (entries self.now) key.now };
 
-    fn with_entry(&self, alloc: Global, key: &Arc<K>, value: &Arc<V>) -> Result<Pieces<Self>, AllocError>
+    fn with_entry(
+        &self,
+        alloc: Global,
+        key: &Arc<K>,
+        value: &Arc<V>,
+    ) -> Result<Pieces<Self>, AllocError>
         requires fit { is_fit self.now }
         requires rising { IsRising K.cmp (entries self.now) }
         ensures entries { IfOk result (λ p. flat_map entries (pieces_list p) ≡ insert_entry K.cmp (entries self.now) (arc_value key.now) (arc_value value.now)) }

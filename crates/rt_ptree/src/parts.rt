@@ -85,7 +85,12 @@ fn extend_pieces<C: Drop>(list: &mut Vec<C>, pieces: Pieces<C>) -> Result<(), Al
 }
 
 // The parts with the pieces in the place of the part at `at`. The others are shared.
-fn replaced<K: Ord, V, C: Part<K, V>>(alloc: Global, parts: &[C], at: usize, pieces: Pieces<C>) -> Result<Vec<C>, AllocError>
+fn replaced<K: Ord, V, C: Part<K, V>>(
+    alloc: Global,
+    parts: &[C],
+    at: usize,
+    pieces: Pieces<C>,
+) -> Result<Vec<C>, AllocError>
     requires within { at < length parts.now }
     requires parts { All C.is_fit parts.now }
     requires pieces { All C.is_fit (pieces_list pieces) }
@@ -100,7 +105,12 @@ fn replaced<K: Ord, V, C: Part<K, V>>(alloc: Global, parts: &[C], at: usize, pie
     Ok(list)
 }
 
-pub fn with_entry_in<K: Ord, V, C: Part<K, V>>(alloc: Global, parts: &[C], key: &Arc<K>, value: &Arc<V>) -> Result<Vec<C>, AllocError>
+pub fn with_entry_in<K: Ord, V, C: Part<K, V>>(
+    alloc: Global,
+    parts: &[C],
+    key: &Arc<K>,
+    value: &Arc<V>,
+) -> Result<Vec<C>, AllocError>
     requires { IsOrderly K.cmp C.entries C.is_fit parts.now }
     ensures entries { IfOk result (λ v. flat_map C.entries v.items ≡ insert_entry K.cmp (flat_map C.entries parts.now) (arc_value key.now) (arc_value value.now)) }
     ensures fits { IfOk result (λ v. All C.is_fit v.items) }
@@ -111,7 +121,11 @@ pub fn with_entry_in<K: Ord, V, C: Part<K, V>>(alloc: Global, parts: &[C], key: 
     replaced(alloc, parts, at, pieces)
 }
 
-pub fn without_in<K: Ord, V, C: Part<K, V>>(alloc: Global, parts: &[C], key: &K) -> Result<Vec<C>, AllocError>
+pub fn without_in<K: Ord, V, C: Part<K, V>>(
+    alloc: Global,
+    parts: &[C],
+    key: &K,
+) -> Result<Vec<C>, AllocError>
     requires { IsOrderly K.cmp C.entries C.is_fit parts.now }
     ensures entries { IfOk result (λ v. flat_map C.entries v.items ≡ without_key K.cmp (flat_map C.entries parts.now) key.now) }
     ensures fits { IfOk result (λ v. All C.is_fit v.items) }
