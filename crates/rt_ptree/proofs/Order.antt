@@ -1,5 +1,5 @@
 -- Entries whose keys rise, under a total order.
-use Rattle.std.proofs.Common.{◌≡◌, ℕ, ◌+◌, Some, None, false, true, List, [], ◌∷◌, ◌++◌, length, slice_get, is_some, refl, ap, ◌∙◌, arith, if◌then◌else◌}
+use Rattle.std.proofs.Common.{◌≡◌, ◌+◌, Some, false, true, List, [], ◌∷◌, ◌++◌, length, slice_get, is_some, refl, ap, ◌∙◌, arith, if◌then◌else◌}
 use Rattle.std.specs.declared.cmp.Ordering.{Ordering}
 use Rattle.std.specs.declared.cmp.Ordering.TheVariants.{Less, Equal, Greater}
 use Rattle.std.specs.BTreeMap.{insert_entry}

@@ -1,5 +1,5 @@
 -- The entries of a list of parts, cut at one part.
-use Rattle.std.proofs.Common.{◌≡◌, ℕ, ◌+◌, ◌<◌, All, Some, false, true, List, [], ◌∷◌, ◌++◌, length, take, drop, get_or, slice_get, refl, sym, subst, ap, ◌∙◌, flat_map}
+use Rattle.std.proofs.Common.{◌≡◌, ℕ, ◌+◌, ◌<◌, Some, false, true, List, [], ◌∷◌, ◌++◌, length, take, drop, get_or, slice_get, sym, subst, ap, ◌∙◌, flat_map}
 use Rattle.std.specs.declared.cmp.Ordering.{Ordering}
 use Rattle.std.specs.Cmp.{IsTotalOrder}
 use Rattle.std.specs.Ordering.{is_lt}

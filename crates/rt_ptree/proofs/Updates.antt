@@ -1,5 +1,5 @@
 -- What is found at each key after an insertion and a removal.
-use Rattle.std.proofs.Common.{◌≡◌, Bool, Option, Some, None, List, [], ◌∷◌, true, false, is_some, refl, ap, sym, ◌∙◌, if◌then◌else◌}
+use Rattle.std.proofs.Common.{◌≡◌, Bool, Some, None, List, [], ◌∷◌, true, false, refl, ap, sym, ◌∙◌, if◌then◌else◌}
 use Rattle.std.specs.declared.cmp.Ordering.{Ordering}
 use Rattle.std.specs.declared.cmp.Ordering.TheVariants.{Less, Equal, Greater}
 use Rattle.std.specs.BTreeMap.{insert_entry, is_at}
@@ -20,10 +20,6 @@ is_eq-reverse : (r : Ordering) → is_eq (ordering_reverse r) ≡ is_eq r
 is_eq-reverse Less = refl
 is_eq-reverse Equal = refl
 is_eq-reverse Greater = refl
-
-none_from : {V : Type 0} (v : Option V) → is_some v ≡ false → v ≡ None
-none_from None h = refl
-none_from (Some v) h = cc
 
 -- two choices of which the second is made only where the first is not
 cond_swap : {X : Type 0} (a b : Bool) (x y z : X) → (b ≡ true → a ≡ false) → (if b then y else if a then x else z) ≡ (if a then x else if b then y else z)
@@ -46,18 +42,6 @@ module _ {K : Type 0} {cmp : K → K → Ordering} (o : IsTotalOrder cmp) (k : K
 module _ {K V : Type 0} {cmp : K → K → Ordering} (o : IsTotalOrder cmp) (k : K) where
   pub Updates-without : (es : List (K × V)) → IsRising cmp es → Updates cmp es (without_key cmp es k) k None
   Updates-without es rising q = lookup-remove_entry (eq_by_cmp_equiv o) (is_at (cmp k)) (same_tests o k) q es (IsDistinct-from_sorted cmp (keys_of es) rising)
-
-  same_value : (q : K) → cmp k q ≡ Equal → (es : List (K × V)) → value_at cmp es q ≡ value_at cmp es k
-  same_value q equal [] = refl
-  same_value q equal (e ∷ es) = rw (← o.congr k q e.0 equal) (ap (λ z. if is_eq (cmp k e.0) then Some e.1 else z) (same_value q equal es))
-
-  absent_at : (es : List (K × V)) → value_at cmp es k ≡ None → (q : K) (b : Bool) → is_at (cmp k) q ≡ b → value_at cmp es q ≡ (if b then None else value_at cmp es q)
-  absent_at es absent q true equal = same_value q (is_eq_true _ equal) es ∙ absent
-  absent_at es absent q false apart = refl
-
-  -- a key that is not there leaves the entries as they are
-  pub Updates-absent : (es : List (K × V)) → is_some (value_at cmp es k) ≡ false → Updates cmp es es k None
-  Updates-absent es absent q = absent_at es (none_from _ absent) q (is_at (cmp k) q) refl
 
   put_found : (v : V) (e : K × V) (es : List (K × V)) (q : K) → value_at cmp (insert_entry cmp es k v) q ≡ (if is_at (cmp k) q then Some v else value_at cmp es q) → (r : Ordering) → cmp k e.0 ≡ r → value_at cmp (match_ordering r ((k, v) ∷ e ∷ es) ((e.0, v) ∷ es) (e ∷ insert_entry cmp es k v)) q ≡ (if is_at (cmp k) q then Some v else value_at cmp (e ∷ es) q)
   put_found v e es q rest Less is = rw (is_at-flip o k q)

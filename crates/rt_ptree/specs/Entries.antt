@@ -1,5 +1,5 @@
 -- An ordered map as the list of its entries, each a key and its value.
-use Rattle.std.specs.Prelude.{◌≡◌, List, Option, Some, None, find, option_map, if◌then◌else◌}
+use Rattle.std.specs.Prelude.{◌≡◌, List, Option, find, option_map, if◌then◌else◌}
 use Rattle.std.specs.declared.cmp.Ordering.{Ordering}
 use Rattle.std.specs.declared.cmp.Ordering.TheVariants.{Less, Greater}
 use Rattle.std.specs.BTreeMap.{is_at}

@@ -1,5 +1,5 @@
 -- What a list of parts keeps, for the searches in it.
-use Rattle.std.specs.Prelude.{ℕ, ◌<◌, List, length, flat_map, All}
+use Rattle.std.specs.Prelude.{◌<◌, List, length, flat_map, All}
 use Rattle.std.specs.declared.cmp.Ordering.{Ordering}
 use Rattle.rt_ptree.specs.Entries.{IsRising}
 

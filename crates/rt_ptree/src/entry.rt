@@ -8,7 +8,7 @@ use std::cmp::Ordering;
 use std::sync::Arc;
 
 /// A key and its value.
-#[derive(Drop)]
+#[derive(Debug, Drop)]
 pub struct Entry<K, V> {
     pub key: Arc<K>,
     pub value: Arc<V>,

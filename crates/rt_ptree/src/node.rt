@@ -1,6 +1,6 @@
 ghost use Rattle.std.specs.Prelude.{◌≡◌, ◌<◌, ◌≤◌, ◌+◌, IfOk, All, length, vec_len, flat_map};
 ghost use Rattle.std.specs.Arc.{arc_value};
-ghost use Rattle.rt_ptree.specs.Parts.{node_list, node_parts, IsFitNode, HasBounds};
+ghost use Rattle.rt_ptree.specs.Parts.{node_list, node_parts, IsFitNode};
 ghost use Rattle.rt_ptree.specs.Pieces.{pieces_list};
 
 use crate::part::{Part, Pieces};
@@ -12,7 +12,7 @@ use std::sync::Arc;
 pub const MOST_PARTS: usize = 128;
 
 /// A list of parts: a leaf is one of entries, a branch one of leaves.
-#[derive(Drop)]
+#[derive(Debug, Drop)]
 pub struct Node<C> {
     pub parts: Vec<C>,
 }
@@ -25,14 +25,15 @@ impl<C: Drop> Node<C> {
     }
 }
 
-// A list as a node, as none where it is empty, or as two halves where it is one part too long.
+// The list as a node, as two where it is one part too long, and as none where it is empty.
 fn cut<K: Ord, V, C: Part<K, V>>(
     alloc: Global,
     mut parts: Vec<C>,
 ) -> Result<Pieces<Arc<Node<C>>>, AllocError>
     requires len { vec_len parts ≤ 129 }
     requires fits { All C.is_fit parts.items }
-    ensures entries { IfOk result (λ p. flat_map (node_list C.entries) (pieces_list p) ≡ flat_map C.entries parts.items) }
+    ensures entries { IfOk result (λ p. flat_map (node_list C.entries) (pieces_list p)
+        ≡ flat_map C.entries parts.items) }
     ensures fits { IfOk result (λ p. All (IsFitNode C.is_fit) (pieces_list p)) }
 {
     if parts.is_empty() {

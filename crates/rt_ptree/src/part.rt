@@ -7,7 +7,7 @@ ghost use Rattle.rt_ptree.specs.Pieces.{pieces_list};
 use std::alloc::{AllocError, Global};
 use std::sync::Arc;
 
-/// What is put in the place of a part: nothing where it became empty, and two where it was cut into halves.
+/// What is put in the place of a part: nothing where it became empty, and two where it was cut.
 #[derive(Drop)]
 pub enum Pieces<P> {
     None,
@@ -26,7 +26,7 @@ pub trait Part<K: Ord, V>: Drop {
     // No list of the part is empty or above its bound.
     ghost is_fit: { Self → Type 0 };
 
-    // One owner more of the part.
+    // The part with one owner more.
     fn share(&self) -> Result<Self, AllocError>
         requires { is_fit self.now }
         ensures same { IfOk result (λ p. entries p ≡ entries self.now) }
@@ -55,12 +55,14 @@ pub trait Part<K: Ord, V>: Drop {
     ) -> Result<Pieces<Self>, AllocError>
         requires fit { is_fit self.now }
         requires rising { IsRising K.cmp (entries self.now) }
-        ensures entries { IfOk result (λ p. flat_map entries (pieces_list p) ≡ insert_entry K.cmp (entries self.now) (arc_value key.now) (arc_value value.now)) }
+        ensures entries { IfOk result (λ p. flat_map entries (pieces_list p)
+            ≡ insert_entry K.cmp (entries self.now) (arc_value key.now) (arc_value value.now)) }
         ensures fits { IfOk result (λ p. All is_fit (pieces_list p)) };
 
     fn without(&self, alloc: Global, key: &K) -> Result<Pieces<Self>, AllocError>
         requires fit { is_fit self.now }
         requires rising { IsRising K.cmp (entries self.now) }
-        ensures entries { IfOk result (λ p. flat_map entries (pieces_list p) ≡ without_key K.cmp (entries self.now) key.now) }
+        ensures entries { IfOk result (λ p. flat_map entries (pieces_list p)
+            ≡ without_key K.cmp (entries self.now) key.now) }
         ensures fits { IfOk result (λ p. All is_fit (pieces_list p)) };
 }

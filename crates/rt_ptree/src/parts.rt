@@ -56,11 +56,12 @@ pub fn after_in<'a, K: Ord, V, C: Part<K, V>>(parts: &'a [C], key: &K) -> Option
     }
 }
 
-// Adds one owner more of each part.
+// Adds the parts, each with one owner more.
 fn extend_shared<K: Ord, V, C: Part<K, V>>(list: &mut Vec<C>, parts: &[C]) -> Result<(), AllocError>
     requires list { All C.is_fit list.old.items }
     requires parts { All C.is_fit parts.now }
-    ensures entries { OnOk result (flat_map C.entries list.new.items ≡ flat_map C.entries list.old.items ++ flat_map C.entries parts.now) }
+    ensures entries { OnOk result (flat_map C.entries list.new.items
+        ≡ flat_map C.entries list.old.items ++ flat_map C.entries parts.now) }
     ensures fits { OnOk result (All C.is_fit list.new.items) }
     ensures len { OnOk result (vec_len list.new ≡ vec_len list.old + length parts.now) }
 {
@@ -94,7 +95,10 @@ fn replaced<K: Ord, V, C: Part<K, V>>(
     requires within { at < length parts.now }
     requires parts { All C.is_fit parts.now }
     requires pieces { All C.is_fit (pieces_list pieces) }
-    ensures entries { IfOk result (λ v. flat_map C.entries v.items ≡ flat_map C.entries (take at parts.now) ++ (flat_map C.entries (pieces_list pieces) ++ flat_map C.entries (drop (at + 1) parts.now))) }
+    ensures entries { IfOk result (λ v. flat_map C.entries v.items
+        ≡ flat_map C.entries (take at parts.now)
+        ++ (flat_map C.entries (pieces_list pieces)
+        ++ flat_map C.entries (drop (at + 1) parts.now))) }
     ensures fits { IfOk result (λ v. All C.is_fit v.items) }
     ensures len { IfOk result (λ v. vec_len v ≤ length parts.now + 1) }
 {
@@ -112,7 +116,8 @@ pub fn with_entry_in<K: Ord, V, C: Part<K, V>>(
     value: &Arc<V>,
 ) -> Result<Vec<C>, AllocError>
     requires { IsOrderly K.cmp C.entries C.is_fit parts.now }
-    ensures entries { IfOk result (λ v. flat_map C.entries v.items ≡ insert_entry K.cmp (flat_map C.entries parts.now) (arc_value key.now) (arc_value value.now)) }
+    ensures entries { IfOk result (λ v. flat_map C.entries v.items
+        ≡ insert_entry K.cmp (flat_map C.entries parts.now) (arc_value key.now) (arc_value value.now)) }
     ensures fits { IfOk result (λ v. All C.is_fit v.items) }
     ensures len { IfOk result (λ v. vec_len v ≤ length parts.now + 1) }
 {
@@ -127,7 +132,8 @@ pub fn without_in<K: Ord, V, C: Part<K, V>>(
     key: &K,
 ) -> Result<Vec<C>, AllocError>
     requires { IsOrderly K.cmp C.entries C.is_fit parts.now }
-    ensures entries { IfOk result (λ v. flat_map C.entries v.items ≡ without_key K.cmp (flat_map C.entries parts.now) key.now) }
+    ensures entries { IfOk result (λ v. flat_map C.entries v.items
+        ≡ without_key K.cmp (flat_map C.entries parts.now) key.now) }
     ensures fits { IfOk result (λ v. All C.is_fit v.items) }
     ensures len { IfOk result (λ v. vec_len v ≤ length parts.now + 1) }
 {

@@ -19,7 +19,7 @@ type Branch<K, V> = Arc<Node<Leaf<K, V>>>;
 ///
 /// Contracts see the list of its entries, whose keys strictly rise. At an equal key the key that is there
 /// stays, as in std's `BTreeMap`.
-#[derive(Drop)]
+#[derive(Debug, Drop)]
 pub struct Tree<K: Ord, V> {
     branches: Option<Arc<Vec<Branch<K, V>>>>,
     count: usize,
@@ -153,17 +153,21 @@ impl<K: Ord + Drop, V: Drop> Tree<K, V> {
 
     // The map with the entry put in.
     fn with_entry(&self, key: &Arc<K>, value: &Arc<V>) -> Result<Self, AllocError>
-        ensures ok { IfOk result (λ t. t ≡ insert_entry K.cmp self.now (arc_value key.now) (arc_value value.now)) }
-        ensures updates { IfOk result (λ t. Updates K.cmp self.now t (arc_value key.now) (Some (arc_value value.now))) }
+        ensures ok { IfOk result (λ t. t
+            ≡ insert_entry K.cmp self.now (arc_value key.now) (arc_value value.now)) }
+        ensures updates { IfOk result (λ t.
+            Updates K.cmp self.now t (arc_value key.now) (Some (arc_value value.now))) }
     {
         let len = self.len_with(key)?;
         let branches = self.branches_with(key, value)?;
         Tree::from_branches(self.alloc, branches, len)
     }
 
-    // How many entries there are with one at the key. A map of `usize::MAX` entries, which no memory holds, is full.
+    // How many entries there are with one at the key. A map of `usize::MAX` entries, which no
+    // memory holds, is full.
     fn len_with(&self, key: &K) -> Result<usize, AllocError>
-        ensures { IfOk result (λ n. n ≡ length self.now + (if is_some (value_at K.cmp self.now key.now) then 0 else 1)) }
+        ensures { IfOk result (λ n. n
+            ≡ length self.now + (if is_some (value_at K.cmp self.now key.now) then 0 else 1)) }
     {
         match self.get(key) {
             Some(_) => Ok(self.len()),
@@ -172,7 +176,8 @@ impl<K: Ord + Drop, V: Drop> Tree<K, V> {
     }
 
     fn branches_with(&self, key: &Arc<K>, value: &Arc<V>) -> Result<Vec<Branch<K, V>>, AllocError>
-        ensures entries { IfOk result (λ v. flat_map branch_list v.items ≡ insert_entry K.cmp self.now (arc_value key.now) (arc_value value.now)) }
+        ensures entries { IfOk result (λ v. flat_map branch_list v.items
+            ≡ insert_entry K.cmp self.now (arc_value key.now) (arc_value value.now)) }
         ensures fits { IfOk result (λ v. All IsFitBranch v.items) }
     {
         match &self.branches {
@@ -230,7 +235,8 @@ fn single<K: Drop, V: Drop>(
     key: &Arc<K>,
     value: &Arc<V>,
 ) -> Result<Vec<Branch<K, V>>, AllocError>
-    ensures entries { IfOk result (λ v. flat_map branch_list v.items ≡ (arc_value key.now, arc_value value.now) ∷ []) }
+    ensures entries { IfOk result (λ v. flat_map branch_list v.items
+        ≡ (arc_value key.now, arc_value value.now) ∷ []) }
     ensures fits { IfOk result (λ v. All IsFitBranch v.items) }
 {
     let leaf = Node::shared(alloc, vec![in alloc; Entry::of(key, value)?]?)?;

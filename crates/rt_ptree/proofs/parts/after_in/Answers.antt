@@ -1,4 +1,4 @@
-use Rattle.std.proofs.Common.{◌≡◌, ◌+◌, ◌≤◌, length, drop, Some, None, slice_get, flat_map, arith}
+use Rattle.std.proofs.Common.{◌+◌, drop, flat_map}
 use Rattle.std.proofs.lemmas.List.{drop_all}
 use Rattle.rt_ptree.proofs.Places.{IsRising-at, entry_after-at, drop-at, first-append}
 use Rattle.rt_ptree.proofs.parts.after_in.Goals as goal

@@ -1,4 +1,4 @@
-use Rattle.std.proofs.Common.{◌≡◌, ◌+◌, ◌≤◌, ◌++◌, All, length, take, vec_len, flat_map}
+use Rattle.std.proofs.Common.{◌≡◌, ◌+◌, ◌++◌, All, take, vec_len, flat_map}
 use Rattle.rt_ptree.proofs.parts.extend_shared.Given as goal
 
 abbrev pub invariant-loop-part : goal.invariant-loop-part

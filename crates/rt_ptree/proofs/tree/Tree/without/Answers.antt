@@ -1,6 +1,6 @@
-use Rattle.std.proofs.Common.{◌≡◌, ◌∙◌, List, None, length, flat_map, sym, subst, arith}
+use Rattle.std.proofs.Common.{◌≡◌, ◌∙◌, List, None, flat_map, sym, subst, arith}
 use Rattle.std.proofs.lemmas.Result.{IfOk-weaker}
-use Rattle.rt_ptree.specs.Entries.{Updates, without_key}
+use Rattle.rt_ptree.specs.Entries.{Updates}
 use Rattle.rt_ptree.specs.Parts.{branch_list}
 use Rattle.rt_ptree.proofs.Order.{IsRising-without, length-without}
 use Rattle.rt_ptree.proofs.Updates.{Updates-without}
