@@ -1,0 +1,4 @@
+pub mod Order
+pub mod Middle
+pub mod Places
+pub mod Updates

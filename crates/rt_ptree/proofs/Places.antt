@@ -1,0 +1,61 @@
+-- The entries of a list of parts, cut at one part.
+use Rattle.std.proofs.Common.{◌≡◌, ℕ, ◌+◌, ◌<◌, Some, false, true, List, [], ◌∷◌, ◌++◌, length, take, drop, get_or, slice_get, sym, subst, ap, ◌∙◌, flat_map}
+use Rattle.std.specs.declared.cmp.Ordering.{Ordering}
+use Rattle.std.specs.Cmp.{IsTotalOrder}
+use Rattle.std.specs.Ordering.{is_lt}
+use Rattle.std.proofs.lemmas.List.{append-nil, take-append-drop, drop_more}
+use Rattle.std.proofs.lemmas.List.Concat.{flat_map-append}
+use Rattle.std.specs.BTreeMap.{insert_entry}
+use Rattle.std.specs.Option.{option_or}
+use Rattle.rt_ptree.specs.Entries.{IsRising, IsBelow, IsAbove, value_at, entry_after, without_key}
+use Rattle.rt_ptree.proofs.Middle.{insert_entry-middle, without_key-middle, value_at-middle, entry_after-middle}
+use Rattle.rt_ptree.proofs.Order.{IsRising-left, IsRising-right, IsAbove-from_first, IsBelow-from_first}
+
+-- the first of two lists that are joined
+pub first-append : {E : Type 0} (xs ys : List E) (e : E) → slice_get xs 0 ≡ Some e → slice_get (xs ++ ys) 0 ≡ Some e
+first-append [] ys e first = cc
+first-append (x ∷ xs) ys e first = first
+
+-- the entries of a list that is cut into halves
+pub flat_map-halves : {C E : Type 0} (f : C → List E) (n : ℕ) (parts : List C) → flat_map f (take n parts) ++ (flat_map f (drop n parts) ++ []) ≡ flat_map f parts
+flat_map-halves f n parts = ap (λ ys. flat_map f (take n parts) ++ ys) (append-nil (flat_map f (drop n parts))) ∙ sym (flat_map-append f (take n parts) (drop n parts)) ∙ ap (flat_map f) (take-append-drop n parts)
+
+module _ {C E : Type 0} (f : C → List E) (parts : List C) (i : ℕ) (x : C) (within : i < length parts) (read : x ≡ get_or parts i x) where
+  pub drop-at : drop i parts ≡ x ∷ drop (i + 1) parts
+  drop-at = drop_more parts i x within ∙ ap (λ y. y ∷ drop (i + 1) parts) (sym read)
+
+  pub flat_map-cut : flat_map f parts ≡ flat_map f (take i parts) ++ flat_map f (drop i parts)
+  flat_map-cut = sym (ap (flat_map f) (take-append-drop i parts)) ∙ flat_map-append f (take i parts) (drop i parts)
+
+  -- the entries before the part x, those of x, and those behind it
+  pub flat_map-at : flat_map f parts ≡ flat_map f (take i parts) ++ (f x ++ flat_map f (drop (i + 1) parts))
+  flat_map-at = flat_map-cut ∙ ap (λ ys. flat_map f (take i parts) ++ flat_map f ys) drop-at
+
+module _ {K V C : Type 0} {cmp : K → K → Ordering} (o : IsTotalOrder cmp) (f : C → List (K × V)) (parts : List C) (i : ℕ) (x : C) (within : i < length parts) (read : x ≡ get_or parts i x) (rising : IsRising cmp (flat_map f parts)) where
+  pub IsRising-at : IsRising cmp (f x)
+  IsRising-at = IsRising-left cmp _ _ (IsRising-right cmp _ _ (subst (IsRising cmp) (flat_map-at f parts i x within read) rising))
+
+  module _ (k : K) (e : K × V) (first : slice_get (f x) 0 ≡ Some e) where
+    -- the parts before one that does not begin above k are below k
+    pub IsBelow-at : is_lt (cmp k e.0) ≡ false → IsBelow cmp (flat_map f (take i parts)) k
+    IsBelow-at not_less = IsBelow-from_first o k _ _ e (subst (IsRising cmp) (flat_map-at f parts i x within read) rising) (first-append (f x) _ e first) not_less
+
+    -- the parts from one on that begins above k are above k
+    pub IsAbove-at : is_lt (cmp k e.0) ≡ true → IsAbove cmp (flat_map f (drop i parts)) k
+    IsAbove-at less =
+        let rest : IsRising cmp (f x ++ flat_map f (drop (i + 1) parts)) = IsRising-right cmp _ _ (subst (IsRising cmp) (flat_map-at f parts i x within read) rising) in
+        rw (drop-at f parts i x within read) (IsAbove-from_first o k _ e rest (first-append (f x) _ e first) less)
+
+module _ {K V C : Type 0} (cmp : K → K → Ordering) (f : C → List (K × V)) (parts : List C) (i : ℕ) (x : C) (within : i < length parts) (read : x ≡ get_or parts i x) (k : K) (below : IsBelow cmp (flat_map f (take i parts)) k) (above : IsAbove cmp (flat_map f (drop (i + 1) parts)) k) where
+  pub value_at-at : value_at cmp (flat_map f parts) k ≡ value_at cmp (f x) k
+  value_at-at = ap (λ es. value_at cmp es k) (flat_map-at f parts i x within read) ∙ value_at-middle cmp k _ (f x) _ below above
+
+  pub entry_after-at : entry_after cmp (flat_map f parts) k ≡ option_or (entry_after cmp (f x) k) (slice_get (flat_map f (drop (i + 1) parts)) 0)
+  entry_after-at = ap (λ es. entry_after cmp es k) (flat_map-at f parts i x within read) ∙ entry_after-middle cmp k _ (f x) _ below above
+
+  -- the part x is changed, and the others stay
+  pub insert_entry-at : (v : V) → insert_entry cmp (flat_map f parts) k v ≡ flat_map f (take i parts) ++ (insert_entry cmp (f x) k v ++ flat_map f (drop (i + 1) parts))
+  insert_entry-at v = ap (λ es. insert_entry cmp es k v) (flat_map-at f parts i x within read) ∙ insert_entry-middle cmp k v _ (f x) _ below above
+
+  pub without_key-at : without_key cmp (flat_map f parts) k ≡ flat_map f (take i parts) ++ (without_key cmp (f x) k ++ flat_map f (drop (i + 1) parts))
+  without_key-at = ap (λ es. without_key cmp es k) (flat_map-at f parts i x within read) ∙ without_key-middle cmp k _ (f x) _ below above
