@@ -127,6 +127,7 @@ spells text local other h read =
     spelled : ℕ → Parts → List ℕ
     spelled k (Ok (d, t)) = year_text d.year ++ 45 ∷ [] ++ pad2 d.month ++ 45 ∷ [] ++ pad2 d.day ++ 32 ∷ (pad2 t.hour ++ 58 ∷ pad2 t.minute ++ 58 ∷ pad2 t.second ++ fraction_part (Some k) t.subsec)
     spelled k _ = []
+
     year_of : Parts → ℤ
     year_of (Ok p) = p.0.year
     year_of _ = pos 0

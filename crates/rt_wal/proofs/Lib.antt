@@ -5,3 +5,6 @@ pub mod Offsets
 pub mod Instants
 pub mod Shift
 pub mod Stamps
+pub mod Cuts
+pub mod OneMoment
+pub mod OneCut

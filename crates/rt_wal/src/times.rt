@@ -7,8 +7,8 @@ ghost use Rattle.rt_wal.specs.Times.{civil_length, IsCivilText, IsClockText, IsO
 use crate::faults::{RecordWhy, WalFault};
 use jiff::SignedDuration;
 use jiff::civil::DateTime;
-use jiff_core::civil::DateTime as Plain;
 use jiff::fmt::temporal::{DateTimePrinter, parse_datetime};
+use jiff_core::civil::DateTime as Plain;
 use rt_json::{Json, member};
 use rt_value::Text;
 use std::alloc::{AllocError, Global};

@@ -13,7 +13,7 @@ returns-in_default-clause-none c = λ dt h.
     let wide : FitsSigned w64 c.from.result = omega (arith, signed_arith) in
     let d = simp to_z-of_z at c.from_secs-shift.ensures in
     let e : false ≡ true = c.in_default.ensures.succeeds.1
-        (can_shift (civil_nanos c.args.local) (civil_nanos dt) _ c.args.seconds (d ∙ ap (λ n. n *ℤ pos 1_000_000_000) from) h.0 (civil_nanos_range dt)) in cc
+    (can_shift (civil_nanos c.args.local) (civil_nanos dt) _ c.args.seconds (d ∙ ap (λ n. n *ℤ pos 1_000_000_000) from) h.0 (civil_nanos_range dt)) in cc
 
 pub returns-else-year-ge1-clause-none : goal.returns-else-year-ge1-clause-none
 returns-else-year-ge1-clause-none c = λ dt h.
