@@ -1,19 +1,19 @@
 -- What the library's reader makes of a date and a time of day spelled with so many places of the second.
-use Rattle.std.proofs.Common.{◌≡◌, ℕ, ℤ, pos, negsuc, zero, suc, ◌+◌, ◌-◌, ◌*◌, ◌/◌, ◌%◌, ◌^◌, ◌<◌, ◌≤◌, ◌≤ℤ◌, ◌==◌, ◌||◌, nat_lt, min, take_at, drop_at, length, Bool, true, false, List, [], ◌∷◌, ◌++◌, Option, Some, None, Ok, Result, refl, sym, ap, subst, arith, append-nil, ◌∙◌, length-append}
+use Rattle.std.proofs.Common.{◌≡◌, ℕ, ℤ, pos, negsuc, zero, suc, ◌+◌, ◌-◌, ◌%◌, ◌^◌, ◌<◌, ◌≤◌, ◌≤ℤ◌, ◌==◌, min, take_at, drop_at, length, true, false, List, [], ◌∷◌, ◌++◌, Option, Some, None, Ok, Result, refl, sym, ap, subst, arith, append-nil, ◌∙◌, length-append}
 use Rattle.std.proofs.lemmas.Bool.Decides.{nat_tests}
 use Rattle.std.proofs.lemmas.List.{append_assoc}
 use Rattle.std.proofs.Math.Nat.{mod-eq_of_lt, mod-le}
 use Rattle.std.specs.Char.{is_ascii_digit}
 use Rattle.std.specs.List.{prefix_len}
-use Rattle.jiff.specs.Types.{Date, Time, DateTime}
+use Rattle.jiff.specs.Types.{Time, DateTime}
 use Rattle.jiff_core.specs.declared.error.Bound.TheVariants as Bd
 use Rattle.jiff_core.specs.declared.error.Syntax.TheVariants as Syntax
 use Rattle.jiff_core.specs.declared.error.Error.{Error}
 use Rattle.jiff_core.proofs.SignedLemmas.{signed_arith}
 use Rattle.jiff_fmt.specs.Reader.{nanoseconds, temporal_fraction, fraction_value}
-use Rattle.jiff_fmt.specs.Text.{pad2, date_text, time_text, datetime_text, places, fraction_part, year_text}
+use Rattle.jiff_fmt.specs.Text.{pad2, time_text, datetime_text, places, fraction_part, year_text}
 use Rattle.jiff.specs.Words.{civil_nanos}
-use Rattle.jiff_fmt.specs.Temporal.{parts_nanos, date_spec, date_parts, DateParts, TimeParts, time_parts, temporal_datetime, time_spec, fraction_or_zero, parse_datetime}
+use Rattle.jiff_fmt.specs.Temporal.{parts_nanos, date_parts, DateParts, TimeParts, time_parts, temporal_datetime, time_spec, fraction_or_zero, parse_datetime}
 use Rattle.jiff_fmt.proofs.TextLemmas.{places-read}
 use Rattle.jiff_fmt.proofs.RoundTrip.{field-pad2, date_spec-text, offset-empty, annotations-empty}
 use Rattle.rt_wal.specs.Times.{civil_length, IsCivilText}

@@ -1,6 +1,6 @@
 -- One more line keeps the cut.
 use Rattle.std.proofs.Common.{◌≡◌, ℕ, ◌+◌, ◌<◌, ◌≤◌, ◌⊎◌, inl, inr, Bool, true, false, not, ◌&&◌, List, [], ◌∷◌, ◌++◌, length, refl, sym, ap, ◌∙◌, subst, arith, append_assoc, append-nil}
-use Rattle.std.specs.Prelude.{filter, All, nat_le, IsTrue}
+use Rattle.std.specs.Prelude.{filter, nat_le}
 use Rattle.std.specs.List.{AllZip, flat_map}
 use Rattle.std.proofs.lemmas.Bool.{leb-true, leb-false}
 use Rattle.std.proofs.lemmas.Grind.{flat_map-append}
@@ -10,7 +10,7 @@ use Rattle.rt_wal.specs.declared.records.Record.{Record}
 use Rattle.rt_wal.specs.declared.batching.Batching.{Batching}
 use Rattle.rt_wal.specs.declared.batching.Batching.TheVariants.{Batch, More}
 use Rattle.rt_wal.specs.Records.{IsRecord}
-use Rattle.rt_wal.specs.Batches.{is_blank, is_commit, AreRecords, IsOpen, IsWhole, IsCutSoFar, Waiting, HasCut, batches_in, ends_batch, IsNext, TakesLine, blank, taken}
+use Rattle.rt_wal.specs.Batches.{is_blank, is_commit, IsOpen, IsWhole, IsCutSoFar, Waiting, HasCut, batches_in, ends_batch, IsNext, TakesLine, blank, taken}
 
 both : (a b : Bool) → (a && b) ≡ true → (a ≡ true) × (b ≡ true)
 both true b h = (refl, h)

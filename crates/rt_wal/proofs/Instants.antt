@@ -1,8 +1,7 @@
 -- How the parts of a text are put together.
-use Rattle.std.proofs.Common.{◌≡◌, ℕ, ℤ, ◌-◌, ◌≤◌, ◌⊎◌, inl, inr, Bool, true, false, List, ◌++◌, length, take, drop, refl, sym, ap, ◌∙◌, arith, Option, Some, None, take_at, drop_at, length-append, subst}
+use Rattle.std.proofs.Common.{◌≡◌, ℕ, ℤ, ◌-◌, inl, inr, List, ◌++◌, length, take, drop, refl, sym, ap, ◌∙◌, arith, Option, Some, None, take_at, drop_at, length-append, subst}
 use Rattle.std.specs.Prelude.{IfSome, IfNone}
 use Rattle.jiff.specs.Types.{DateTime}
-use Rattle.jiff.specs.Words.{civil_nanos, nanos_of_seconds}
 use Rattle.rt_wal.specs.Times.{IsCivilText, IsOffsetText, IsUtc, IsInstantOf, IsInstant, HasNoInstantAt}
 use Rattle.rt_wal.proofs.CivilText.{one_civil}
 use Rattle.rt_wal.proofs.Offsets.{one_offset, offset_length}

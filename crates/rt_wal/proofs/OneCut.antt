@@ -1,11 +1,11 @@
 -- Records are cut in one way at most.
-use Rattle.std.proofs.Common.{◌≡◌, ℕ, ◌+◌, ◌<◌, ◌≤◌, ◌⊎◌, inl, inr, List, [], ◌∷◌, ◌++◌, length, refl, sym, ap, ◌∙◌, subst, arith, append_assoc}
-use Rattle.std.specs.Prelude.{All, IsTrue}
+use Rattle.std.proofs.Common.{◌≡◌, ℕ, ◌+◌, ◌<◌, ◌⊎◌, inl, inr, List, [], ◌∷◌, ◌++◌, length, refl, sym, ap, ◌∙◌, arith, append_assoc}
+use Rattle.std.specs.Prelude.{All}
 use Rattle.std.specs.List.{flat_map}
 use Rattle.std.proofs.lemmas.List.{length_push}
 use Rattle.std.proofs.lemmas.List.Elements.{All-tail}
 use Rattle.rt_wal.specs.declared.records.Record.{Record}
-use Rattle.rt_wal.specs.Batches.{is_commit, IsOpen, IsWhole, IsCutSoFar, IsCut, last_batch}
+use Rattle.rt_wal.specs.Batches.{IsOpen, IsWhole, IsCut, last_batch}
 
 -- of two places in one list the first stands in the front of the other
 record Same {X : Type 0} (front front' : List X) (x x' : X) (rest rest' : List X) : Type 0 where

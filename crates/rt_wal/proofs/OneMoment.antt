@@ -1,7 +1,6 @@
 -- A text names one commit time at most.
-use Rattle.std.proofs.Common.{◌≡◌, ℕ, ℤ, suc, ◌-◌, ◌⊎◌, inl, inr, Bool, true, false, List, [], ◌∷◌, ◌++◌, length, take, drop, refl, sym, ap, ◌∙◌, subst, arith, append_assoc}
+use Rattle.std.proofs.Common.{◌≡◌, ℕ, ℤ, suc, ◌-◌, ◌⊎◌, inl, inr, Bool, true, false, List, ◌∷◌, ◌++◌, length, refl, sym, ap, ◌∙◌, subst, arith, append_assoc}
 use Rattle.jiff.specs.Types.{DateTime}
-use Rattle.jiff.specs.Words.{civil_nanos}
 use Rattle.jiff.proofs.Family.{same_datetime}
 use Rattle.jiff_fmt.specs.Text.{pad2}
 use Rattle.rt_wal.specs.Times.{sign_of, IsOffsetText, IsClockText, IsInstantOf, IsInstant, IsMoment, utc_text}

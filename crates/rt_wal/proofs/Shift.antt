@@ -1,11 +1,9 @@
 -- Moving a date and time of day by an offset.
-use Rattle.std.proofs.Common.{◌≡◌, ℕ, ℤ, pos, neg_ℤ, ◌-ℤ◌, ◌*ℤ◌, ◌+ℤ◌, ◌≤ℤ◌, ◌<ℤ◌, int_div, int_rem, arith, FitsSigned, w64, sym, ◌∙◌}
-use Rattle.std.proofs.lemmas.Int.{ints, quot-rem}
+use Rattle.std.proofs.Common.{◌≡◌, ℤ, pos, neg_ℤ, ◌-ℤ◌, ◌*ℤ◌, ◌+ℤ◌, arith}
+use Rattle.std.proofs.lemmas.Int.{ints}
 use Rattle.jiff.specs.Types.{DateTime}
 use Rattle.jiff.specs.Words.{civil_nanos, IsCivilNanos, nanos_of_seconds}
-use Rattle.jiff.proofs.Family.{civil_nanos_injective, epoch_day_injective, civil_nanos_range}
-use Rattle.jiff.proofs.SpanFacts.{signed_arith}
-use Rattle.jiff_core.proofs.SignedLemmas.{int_rem-parts}
+use Rattle.jiff.proofs.Family.{civil_nanos_injective, epoch_day_injective}
 
 pub can_shift : (n m d off : ℤ) → d ≡ off *ℤ pos 1_000_000_000 → m ≡ n -ℤ nanos_of_seconds off → IsCivilNanos m → IsCivilNanos (n +ℤ neg_ℤ d)
 can_shift n m d off e f h = (omega (arith, ints), omega (arith, ints))

@@ -1,4 +1,4 @@
-use Rattle.std.proofs.Common.{◌≡◌, ℕ, ℤ, pos, ◌≤ℤ◌, ap, sym, ◌∙◌, subst, Ok, Some, false, arith, rules}
+use Rattle.std.proofs.Common.{◌≡◌, ℕ, pos, ◌≤ℤ◌, sym, ◌∙◌, subst, Some, false, arith, rules}
 use Rattle.std.proofs.lemmas.Int.{ints}
 use Rattle.jiff.specs.Types.{DateTime}
 use Rattle.jiff.specs.Words.{datetime_text}

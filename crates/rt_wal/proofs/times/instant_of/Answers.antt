@@ -1,4 +1,4 @@
-use Rattle.std.proofs.Common.{FitsSigned, w32, to_z, of_z}
+use Rattle.std.proofs.Common.{FitsSigned, w32}
 use Rattle.std.proofs.lemmas.Int.{to_z-of_z}
 use Rattle.rt_wal.proofs.Instants.{some_weaker, none_weaker, same_utc}
 use Rattle.rt_wal.proofs.Offsets.{offset_fits}

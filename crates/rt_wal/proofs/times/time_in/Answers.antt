@@ -1,5 +1,4 @@
 use Rattle.std.proofs.Common.{◌≡◌, List, ℕ, subst, sym, rules}
-use Rattle.jiff.specs.Types.{DateTime}
 use Rattle.rt_wal.specs.Times.{IsInstant}
 use Rattle.rt_wal.proofs.Stamps.{is_stamp, no_stamp}
 use Rattle.rt_wal.proofs.times.time_in.Goals as goal

@@ -1,4 +1,4 @@
-use Rattle.std.proofs.Common.{◌≡◌, ℤ, ◌≤ℤ◌, ◌<ℤ◌, ◌*ℤ◌, pos, arith, Bool, true, false, sym, ◌∙◌, to_z, of_z, w32, w64, FitsSigned, ap}
+use Rattle.std.proofs.Common.{◌≡◌, ◌*ℤ◌, pos, arith, true, false, ◌∙◌, w32, w64, FitsSigned, ap}
 use Rattle.std.proofs.lemmas.Int.{ints, to_z-of_z}
 use Rattle.jiff.specs.Words.{civil_nanos}
 use Rattle.jiff.proofs.Family.{civil_nanos_range}
