@@ -1,2 +1,10 @@
 pub mod Distinct
 pub mod Names
+pub mod CivilText
+pub mod Offsets
+pub mod Instants
+pub mod Shift
+pub mod Stamps
+pub mod Cuts
+pub mod OneMoment
+pub mod OneCut

@@ -1,5 +1,6 @@
 -- The record that a line is, or the first reason why it is none.
-use Rattle.std.specs.Prelude.{◌≡◌, ℕ, List, [], ◌∷◌, length, if◌then◌else◌, ◌==◌, ◌-◌, Option, Some, None, IsSome}
+use Rattle.std.specs.Prelude.{◌≡◌, ℕ, ◌-◌, ◌==◌, false, if◌then◌else◌, List, length, take, slice_get, Option, Some, None, IsSome}
+use Rattle.std.specs.Option.{option_map_or}
 use Rattle.rt_json.specs.declared.tree.Json.{Json}
 use Rattle.rt_json.specs.Grammar.{IsJson}
 use Rattle.rt_wal.specs.declared.records.Record.{Record}
@@ -10,26 +11,41 @@ use Rattle.rt_wal.specs.declared.faults.WalFault.TheVariants.{BadRecord, NoMemor
 use Rattle.rt_wal.specs.Shapes.{shape_of}
 use Rattle.rt_wal.specs.Times.{IsTimeIn}
 
--- the line is JSON, with the members of a record and a commit time
-pub record IsRecord (line : List ℕ) (entry : Record) : Type 0 where
+-- the bytes without the byte at their end, if it stands there
+abbrev pub without_last : ℕ → List ℕ → List ℕ
+without_last byte bytes =
+    if option_map_or (λ last. last == byte) (slice_get bytes (length bytes - 1)) false then take (length bytes - 1) bytes else bytes
+
+-- a line without the LF at its end, and without a CR before it
+abbrev pub content_of : List ℕ → List ℕ
+content_of line = without_last 13 (without_last 10 line)
+
+-- the text is JSON, with the members of a record and a commit time
+pub record IsRecordText (text : List ℕ) (entry : Record) : Type 0 where
   pub tree : Json
-  pub is_json : IsJson line tree
-  pub shape : shape_of (length line) tree ≡ Some (record entry { moment = None })
+  pub is_json : IsJson text tree
+  pub shape : shape_of (length text) tree ≡ Some (record entry { moment = None })
   pub time : IsTimeIn tree entry.moment
 
 -- each reason comes only where none before it applies
-abbrev pub IsRefused : List ℕ → RecordWhy → Type 0
-IsRefused line why.Json = (tree : Json) → IsJson line tree → ⊥
-IsRefused line why.Shape = (tree : Json) × IsJson line tree × (shape_of (length line) tree ≡ None)
-IsRefused line why.Time =
-    (tree : Json) × IsJson line tree × IsSome (shape_of (length line) tree) × ((moment : Option (List ℕ)) → IsTimeIn tree moment → ⊥)
+abbrev pub IsRefusedText : List ℕ → RecordWhy → Type 0
+IsRefusedText text why.Json = (tree : Json) → IsJson text tree → ⊥
+IsRefusedText text why.Shape = (tree : Json) × IsJson text tree × (shape_of (length text) tree ≡ None)
+IsRefusedText text why.Time =
+    (tree : Json) × IsJson text tree × IsSome (shape_of (length text) tree) × ((moment : Option (List ℕ)) → IsTimeIn tree moment → ⊥)
+
+abbrev pub IsTextFault : List ℕ → WalFault → Type 0
+IsTextFault text (BadRecord reason) = IsRefusedText text reason
+IsTextFault text NoMemory = Unit {0}
+
+abbrev pub IsRecord : List ℕ → Record → Type 0
+IsRecord line entry = IsRecordText (content_of line) entry
 
 abbrev pub IsFault : List ℕ → WalFault → Type 0
-IsFault line (BadRecord reason) = IsRefused line reason
-IsFault line NoMemory = Unit {0}
+IsFault line fault = IsTextFault (content_of line) fault
 
--- why there is no tree
+-- why a text is no tree
 abbrev pub IsTreeFault : List ℕ → WalFault → Type 0
-IsTreeFault line (BadRecord why.Json) = IsRefused line why.Json
-IsTreeFault line (BadRecord _) = ⊥
-IsTreeFault line NoMemory = Unit {0}
+IsTreeFault text (BadRecord why.Json) = (tree : Json) → IsJson text tree → ⊥
+IsTreeFault text (BadRecord _) = ⊥
+IsTreeFault text NoMemory = Unit {0}

@@ -1,11 +1,18 @@
 //! The records of a wal2json stream, format 2, and the cut of the stream into batches.
 #![tactic(auto)]
 
+mod batching;
 mod faults;
+mod laws;
 mod parsing;
 mod records;
 mod shapes;
+#[cfg(test)]
+mod tests;
+mod times;
 
+pub use batching::{Batcher, Batching};
 pub use faults::{RecordWhy, WalFault};
+pub use laws::{one_cut, one_moment};
 pub use parsing::parse_record;
 pub use records::{Action, Field, Record};

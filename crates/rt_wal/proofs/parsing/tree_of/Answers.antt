@@ -1,4 +1,3 @@
-use Rattle.std.proofs.Common.{rules}
 use Rattle.rt_wal.proofs.parsing.tree_of.Goals as goal
 
 -- a tree of the line would have been answered

@@ -1,13 +1,11 @@
-use Rattle.std.proofs.Common.{◌≡◌, ◌++◌, ◌∷◌, [], sym, ap, ◌∙◌, true, false, cond, option_map, arith, Option, List, ℕ}
+use Rattle.std.proofs.Common.{◌++◌, ◌∷◌, [], sym, ap, ◌∙◌, true, cond, arith}
 use Rattle.std.specs.Str.{bytes_eq}
-use Rattle.std.specs.List.{list_any}
 use Rattle.std.specs.BTreeSet.{contains}
 use Rattle.std.specs.Cmp.Lexicographic.{slice_cmp}
 use Rattle.std.specs.Ordering.{nat_cmp}
 use Rattle.std.proofs.lemmas.Map.Text.{is_eq-slice_cmp}
-use Rattle.rt_wal.specs.Shapes.{name_of, each, ◌>>=◌}
 use Rattle.rt_wal.proofs.Distinct.{any_push, distinct_push, true_from_not, false_from_not}
-use Rattle.rt_wal.proofs.Names.{Follows, follows_from, named_twice, follows_more}
+use Rattle.rt_wal.proofs.Names.{follows_from, named_twice, follows_more}
 use Rattle.rt_wal.proofs.shapes.are_named.Goals as goal
 
 pub returns-then-not-branch : goal.returns-then-not-branch
