@@ -11,7 +11,7 @@ struct Tally {
     refused: u64,
 }
 
-fn tally(rt: &(impl Input + AllocGlobal)) -> Result<Tally> {
+fn read_lines(rt: &(impl Input + AllocGlobal)) -> Result<Tally> {
     let mut tally = Tally {
         records: 0,
         refused: 0,
@@ -28,7 +28,7 @@ fn tally(rt: &(impl Input + AllocGlobal)) -> Result<Tally> {
 }
 
 fn main(rt: HostRuntime) -> Result<()> {
-    let Tally { records, refused } = tally(&rt)?;
+    let Tally { records, refused } = read_lines(&rt)?;
     println!(rt; "records {records} refused {refused}")?;
     Ok(())
 }
