@@ -4,6 +4,7 @@ use rt_io::{MemSink, MemSource};
 use rt_value::{Bytes, List};
 use std::alloc::{AllocError, Global};
 use std::test::Fail;
+use std::thread::Threads;
 
 const CATALOGUE: &str = "create table notes (id int4 primary key, body text);
 create role authenticated;
@@ -26,6 +27,11 @@ const OUTPUT: &str =
 
 const REPLAY: [&str; 3] = ["replay", "a", "b"];
 
+/// No call fails; the first one does.
+const NONE: &[u64] = &[];
+
+const FIRST: &[u64] = &[0];
+
 fn source(alloc: Global, text: &str, failing: &[u64]) -> Result<MemSource, AllocError> {
     let bytes = Vec::from_slice(alloc, text.as_bytes())?;
     let failing = Vec::from_slice(alloc, failing)?;
@@ -37,14 +43,14 @@ fn sink(alloc: Global, failing: &[u64]) -> Result<MemSink, AllocError> {
 }
 
 /// The status of a run, with what it wrote to `out` and to `err`.
-fn outcome(
-    rt: &HostRuntime,
+fn outcome<R: Threads + Sync>(
+    rt: &R,
+    alloc: Global,
     words: &[&str],
     mut catalogue: MemSource,
     mut script: MemSource,
     failing_writes: &[u64],
 ) -> Result<(Status, Vec<u8>, Vec<u8>), AllocError> {
-    let alloc = rt.alloc();
     let mut out = sink(alloc, failing_writes)?;
     let mut err = sink(alloc, &[])?;
     let status = replay(
@@ -76,10 +82,10 @@ fn one_insert_from_bytes_to_bytes(rt: HostRuntime) -> Result<(), Fail> {
     let script = script_of(alloc, [OPEN, FRAME, WAL, "poll"])?;
     let catalogue = source(alloc, CATALOGUE, &[])?;
     let script = source(alloc, script.as_str(), &[])?;
-    let (status, out, err) = outcome(&rt, &REPLAY, catalogue, script, &[])?;
+    let (status, out, err) = outcome(&rt, alloc, &REPLAY, catalogue, script, &[])?;
     assert_eq!(rt; status, Status::Ok);
     assert_eq!(rt; out.as_slice(), OUTPUT.as_bytes());
-    assert_eq!(rt; err.as_slice(), b"");
+    assert_eq!(rt; err.as_slice(), b"".as_slice());
     Ok(())
 }
 
@@ -87,60 +93,59 @@ fn one_insert_from_bytes_to_bytes(rt: HostRuntime) -> Result<(), Fail> {
 fn each_status_by_its_cause(rt: HostRuntime) -> Result<(), Fail> {
     let alloc = rt.alloc();
     let script = script_of(alloc, [OPEN, FRAME, WAL, "poll"])?;
-    let none: &[u64] = &[];
     let usage = "usage: realtime-replay replay|audit CATALOGUE SCRIPT, check CATALOGUE, gen N\n";
     let replay: &[&str] = &REPLAY;
     for (words, catalogue_fails, script_fails, out_fails, status, line) in [
-        (replay, &[0], none, none, Status::ReadFault, "read fault\n"),
-        (replay, none, &[0], none, Status::ReadFault, "read fault\n"),
+        (replay, FIRST, NONE, NONE, Status::ReadFault, "read fault\n"),
+        (replay, NONE, FIRST, NONE, Status::ReadFault, "read fault\n"),
         (
             replay,
-            none,
-            none,
-            &[0],
+            NONE,
+            NONE,
+            FIRST,
             Status::WriteFault,
             "write fault\n",
         ),
-        (&["replay", "a"], none, none, none, Status::Usage, usage),
+        (&["replay", "a"], NONE, NONE, NONE, Status::Usage, usage),
         (
             &["replay", "a", "-b"],
-            none,
-            none,
-            none,
+            NONE,
+            NONE,
+            NONE,
             Status::Usage,
             usage,
         ),
         (
             &["audit", "a", "b"],
-            none,
-            none,
-            none,
+            NONE,
+            NONE,
+            NONE,
             Status::NotBuilt,
             "not built\n",
         ),
-        (&["gen", "01"], none, none, none, Status::Usage, usage),
+        (&["gen", "01"], NONE, NONE, NONE, Status::Usage, usage),
         (
             &["gen", "4294967295"],
-            none,
-            none,
-            none,
+            NONE,
+            NONE,
+            NONE,
             Status::NotBuilt,
             "not built\n",
         ),
         (
             &["gen", "4294967296"],
-            none,
-            none,
-            none,
+            NONE,
+            NONE,
+            NONE,
             Status::Usage,
             usage,
         ),
     ] {
         let catalogue = source(alloc, CATALOGUE, catalogue_fails)?;
         let script = source(alloc, script.as_str(), script_fails)?;
-        let (got, out, err) = outcome(&rt, words, catalogue, script, out_fails)?;
+        let (got, out, err) = outcome(&rt, alloc, words, catalogue, script, out_fails)?;
         assert_eq!(rt; got, status);
-        assert_eq!(rt; out.as_slice(), b"");
+        assert_eq!(rt; out.as_slice(), b"".as_slice());
         assert_eq!(rt; err.as_slice(), line.as_bytes());
     }
     Ok(())
@@ -152,10 +157,10 @@ fn one_byte_too_many(rt: HostRuntime) -> Result<(), Fail> {
     let long = Bytes::new(vec![in alloc; b'#'; 67108865]?);
     let script = MemSource::new(long, List::new(Vec::new(alloc)));
     let catalogue = source(alloc, CATALOGUE, &[])?;
-    let (status, out, err) = outcome(&rt, &REPLAY, catalogue, script, &[])?;
+    let (status, out, err) = outcome(&rt, alloc, &REPLAY, catalogue, script, &[])?;
     assert_eq!(rt; status, Status::TooLong);
-    assert_eq!(rt; out.as_slice(), b"");
-    assert_eq!(rt; err.as_slice(), b"too long\n");
+    assert_eq!(rt; out.as_slice(), b"".as_slice());
+    assert_eq!(rt; err.as_slice(), b"too long\n".as_slice());
     Ok(())
 }
 
@@ -208,7 +213,7 @@ fn edges_of_the_catalogue(rt: HostRuntime) -> Result<(), Fail> {
     ] {
         let catalogue_source = source(alloc, catalogue, &[])?;
         let script = source(alloc, script.as_str(), &[])?;
-        let (got, _, _) = outcome(&rt, &REPLAY, catalogue_source, script, &[])?;
+        let (got, _, _) = outcome(&rt, alloc, &REPLAY, catalogue_source, script, &[])?;
         assert_eq!(rt; got, status, "{catalogue}");
     }
     Ok(())
@@ -273,7 +278,7 @@ fn edges_of_the_script(rt: HostRuntime) -> Result<(), Fail> {
         let script = script_of(alloc, lines)?;
         let catalogue = source(alloc, CATALOGUE, &[])?;
         let script = source(alloc, script.as_str(), &[])?;
-        let (got, _, _) = outcome(&rt, &REPLAY, catalogue, script, &[])?;
+        let (got, _, _) = outcome(&rt, alloc, &REPLAY, catalogue, script, &[])?;
         assert_eq!(rt; got, status, "line {line}: {to}");
     }
     Ok(())
