@@ -1,0 +1,10 @@
+pub mod Grammar
+pub mod Parse
+pub mod Ranks
+pub mod Readings
+pub mod Resolution
+pub mod Sizes
+pub mod Truth
+pub mod Types
+pub mod Visibility
+pub mod Worth

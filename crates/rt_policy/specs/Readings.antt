@@ -1,0 +1,67 @@
+-- The tables that an expression's subqueries read, each with the columns that it names of it.
+use Rattle.std.specs.Prelude.{ℕ, if◌then◌else◌, List, [], ◌∷◌, ◌++◌, Option, Some, None, option_map, unwrap_or}
+use Rattle.std.specs.List.{flat_map}
+use Rattle.rt_policy.specs.declared.expr.Selected.{Selected}
+use Rattle.rt_policy.specs.declared.expr.Selected.TheVariants.{Column as OfColumn}
+use Rattle.rt_policy.specs.declared.expr.Expr.{Expr}
+use Rattle.rt_policy.specs.declared.expr.Expr.TheOpen.{Expr-F}
+use Rattle.rt_policy.specs.declared.expr.Expr.TheFolds.{fold-Expr}
+use Rattle.rt_policy.specs.declared.scope.Scope.{Scope}
+use Rattle.rt_policy.specs.Resolution.{Reading, Found, column_found, table_named, reading_of}
+
+-- a table that an EXISTS reads, and the columns of it that the EXISTS names
+pub record TableReading : Type 0 where
+  pub table : ℕ
+  pub columns : List ℕ
+
+-- the columns of the inner table that a part names, by what the EXISTS around it reads, and the subqueries in it
+pub record Named : Type 0 where
+  pub columns : Option Reading → List ℕ
+  pub readings : List TableReading
+
+abbrev pub inner_of : Option Found → List ℕ
+inner_of None = []
+inner_of (Some f) = if f.inner then f.column ∷ [] else []
+
+abbrev pub nothing_named : Named
+nothing_named = record { columns = λ at. []; readings = [] }
+
+abbrev pub all_named : List Named → Named
+all_named parts = record { columns = λ at. flat_map (λ p. p.columns at) parts; readings = flat_map (λ p. p.readings) parts }
+
+abbrev pub named_by_selected : Scope → Reading → Selected → List ℕ
+named_by_selected scope r (OfColumn qualifier name) = inner_of (column_found scope (Some r) qualifier name)
+named_by_selected scope r _ = []
+
+abbrev pub named_by_condition : Reading → Option Named → List ℕ
+named_by_condition r None = []
+named_by_condition r (Some n) = n.columns (Some r)
+
+abbrev pub reading_named : Scope → Selected → Option Named → Reading → TableReading
+reading_named scope selects condition r =
+    record { table = r.number; columns = named_by_selected scope r selects ++ named_by_condition r condition }
+
+abbrev pub listed : {A : Type 0} → Option A → List A
+listed None = []
+listed (Some x) = x ∷ []
+
+abbrev pub named_step : Scope → Expr-F Named → Named
+named_step scope (Expr-F.Literal l) = nothing_named
+named_step scope (Expr-F.Cast l t) = nothing_named
+named_step scope Expr-F.Uid = nothing_named
+named_step scope Expr-F.Role = nothing_named
+named_step scope (Expr-F.Claim name) = nothing_named
+named_step scope (Expr-F.Column qualifier name) = record { columns = λ at. inner_of (column_found scope at qualifier name); readings = [] }
+named_step scope (Expr-F.Group a) = a
+named_step scope (Expr-F.Compare op a b) = all_named (a ∷ b ∷ [])
+named_step scope (Expr-F.OneOf negated a items) = all_named (a ∷ items)
+named_step scope (Expr-F.Not a) = a
+named_step scope (Expr-F.And all) = all_named all
+named_step scope (Expr-F.Or all) = all_named all
+named_step scope (Expr-F.Is negated asked a) = a
+named_step scope (Expr-F.Exists selects schema table alias condition) =
+    record { columns = λ at. []; readings = listed (option_map (λ t. reading_named scope selects condition (reading_of alias t)) (table_named scope schema table)) }
+
+-- the subqueries of an expression, in the order in which they stand
+unfoldable pub readings_of : Scope → Expr → List TableReading
+readings_of scope e = (fold-Expr Named (named_step scope) e).readings

@@ -1,0 +1,19 @@
+//! Conditions of row policies: how they are written, what they are at a row, and which rows they show
+//! (PostgreSQL, "Row Security Policies").
+#![tactic(auto)]
+
+mod caller;
+mod expr;
+mod fault;
+mod judge;
+mod rules;
+mod scope;
+mod tables;
+
+pub use caller::{Caller, Seen};
+pub use expr::{Expr, Literal, Selected, TypeName};
+pub use fault::ExprFault;
+pub use judge::{Comparison, Judge, Tested, Truth};
+pub use rules::Rules;
+pub use scope::{ColumnView, Scope, TableView};
+pub use tables::{Policy, TableRules};
