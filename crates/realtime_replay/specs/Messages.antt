@@ -3,7 +3,7 @@ use Rattle.std.specs.Prelude.{ℕ, List, [], ◌∷◌, codes, map}
 use Rattle.std.specs.Fmt.{decimal}
 use Rattle.rt_json.specs.declared.tree.Json.{Json}
 use Rattle.rt_json.specs.declared.tree.Json.TheVariants as j
-use Rattle.rt_json.specs.declared.tree.Member.{Member}
+use Rattle.rt_json.specs.declared.tree.named.Member.{Member}
 use Rattle.realtime_replay.specs.Trees.{named}
 use Rattle.realtime_replay.specs.declared.catalogue.ColumnType.{ColumnType}
 use Rattle.realtime_replay.specs.declared.catalogue.ColumnType.TheVariants as t

@@ -1,26 +1,21 @@
 -- What the class of a byte says of it.
-use Rattle.std.proofs.Common.{◌≡◌, ℕ, true, false}
+use Rattle.std.proofs.Common.{◌≡◌, ℕ, Bool, true, false, cond, refl}
 use Rattle.std.specs.Prelude.{◌==◌}
 use Rattle.std.proofs.lemmas.Bool.{eqb-true, cond_both}
-use Rattle.rt_json.specs.Grammar.{is_blank, is_digit}
+use Rattle.rt_json.specs.Text.{is_digit}
+use Rattle.rt_json.specs.Grammar.{is_blank}
 use Rattle.rt_json.specs.Machine.{class_of}
-use Rattle.rt_json.specs.declared.machine.Class.{Class}
-use Rattle.rt_json.specs.declared.machine.Class.TheVariants as c
-use Rattle.rt_json.specs.declared.machine.Word.TheVariants as w
-use Rattle.rt_json.specs.declared.machine.Digits.TheVariants as d
+use Rattle.rt_json.specs.declared.bytes.Class.{Class}
+use Rattle.rt_json.specs.declared.bytes.Class.TheVariants as c
+use Rattle.rt_json.specs.declared.bytes.Word.TheVariants as w
+use Rattle.rt_json.specs.declared.bytes.Digits.TheVariants as d
+use Rattle.rt_json.proofs.Numbers.{StartsNumber}
 
 abbrev pub IsOf : ℕ → Class → Type 0
 IsOf b c.Blank = is_blank b ≡ true
 IsOf b c.Quote = b ≡ 34
 IsOf b c.Comma = b ≡ 44
-IsOf b (c.NumberStart d.Minus) = b ≡ 45
-IsOf b (c.NumberStart d.Zero) = b ≡ 48
-IsOf b (c.NumberStart d.Whole) = (is_digit b ≡ true) × ((b == 48) ≡ false)
-IsOf b (c.NumberStart d.Point) = ⊥
-IsOf b (c.NumberStart d.Fraction) = ⊥
-IsOf b (c.NumberStart d.Mark) = ⊥
-IsOf b (c.NumberStart d.Sign) = ⊥
-IsOf b (c.NumberStart d.Exponent) = ⊥
+IsOf b (c.NumberStart digits) = StartsNumber b digits
 IsOf b c.Colon = b ≡ 58
 IsOf b c.LeftBracket = b ≡ 91
 IsOf b c.RightBracket = b ≡ 93
@@ -40,3 +35,8 @@ class_means b =
     (λ n48. cond_both (is_digit b) _ _ P (λ e. (e, n48)) (λ n. cond_both (b == 58) _ _ P (λ e. eqb-true b 58 e) (λ n. cond_both (b == 91) _ _ P (λ e. eqb-true b 91 e)
     (λ n. cond_both (b == 93) _ _ P (λ e. eqb-true b 93 e) (λ n. cond_both (b == 102) _ _ P (λ e. eqb-true b 102 e) (λ n. cond_both (b == 110) _ _ P (λ e. eqb-true b 110 e)
     (λ n. cond_both (b == 116) _ _ P (λ e. eqb-true b 116 e) (λ n. cond_both (b == 123) _ _ P (λ e. eqb-true b 123 e) (λ n. cond_both (b == 125) _ _ P (λ e. eqb-true b 125 e) (λ n. tt))))))))))))))
+
+-- what holds at each byte of a class with one byte holds at the byte
+pub class_of_blank : (b : ℕ) → is_blank b ≡ true → class_of b ≡ c.Blank
+unfolding class_of
+class_of_blank b h = rw h refl

@@ -1,32 +1,25 @@
--- The trees whose written text is read again.
-use Rattle.std.specs.Prelude.{◌≡◌, ℕ, zero, suc, true, List}
-use Rattle.std.specs.List.{list_all, AllByRecursion}
-use Rattle.std.specs.Str.{IsUtf8}
-use Rattle.rt_json.specs.Grammar.{IsNumber, is_plain}
+-- The trees whose spelling is read again.
+use Rattle.std.specs.Prelude.{ℕ, zero, suc, List, IsUtf8}
+use Rattle.std.specs.List.{AllByRecursion}
+use Rattle.rt_json.specs.Text.{IsNumber}
 use Rattle.rt_json.specs.declared.tree.Json.{Json, out-Json}
 use Rattle.rt_json.specs.declared.tree.Json.TheOpen.{Json-F}
-use Rattle.rt_json.specs.declared.tree.Member.{Member}
+use Rattle.rt_json.specs.declared.tree.named.Member.{Member}
 
-abbrev pub IsPlainText : List ℕ → Type 0
-IsPlainText text = (list_all is_plain text ≡ true) × IsUtf8 text
-
-abbrev pub FitsPlain : Json-F Json Member → Type 0
-FitsPlain Json-F.Null = Unit {0}
-FitsPlain (Json-F.Bool b) = Unit {0}
-FitsPlain (Json-F.Num text) = IsNumber text
-FitsPlain (Json-F.Text text) = IsPlainText text
-FitsPlain (Json-F.List items) = ⊥
-FitsPlain (Json-F.Object members) = ⊥
+abbrev pub FitsFlat : Json-F Json Member → Type 0
+FitsFlat Json-F.Null = Unit {0}
+FitsFlat (Json-F.Bool b) = Unit {0}
+FitsFlat (Json-F.Num text) = IsNumber text
+FitsFlat (Json-F.Text text) = IsUtf8 text
+FitsFlat (Json-F.List items) = ⊥
+FitsFlat (Json-F.Object members) = ⊥
 
 abbrev pub FitsOver : (Json → Type 0) → Json-F Json Member → Type 0
 FitsOver F (Json-F.List items) = AllByRecursion F items
-FitsOver F (Json-F.Object members) = AllByRecursion (λ m. IsPlainText m.name × F m.value) members
-FitsOver F Json-F.Null = Unit {0}
-FitsOver F (Json-F.Bool b) = Unit {0}
-FitsOver F (Json-F.Num text) = IsNumber text
-FitsOver F (Json-F.Text text) = IsPlainText text
+FitsOver F (Json-F.Object members) = AllByRecursion (λ m. IsUtf8 m.name × F m.value) members
+FitsOver F flat = FitsFlat flat
 
--- at most so many levels, numbers of the grammar, and texts without an escape
+-- lists and objects nest in at most so many levels, numbers are numbers of the grammar, and texts are UTF-8
 abbrev pub FitsWithin : ℕ → Json → Type 0
-FitsWithin zero tree = FitsPlain (out-Json tree)
-FitsWithin (suc depth) tree = FitsOver (FitsWithin depth) (out-Json tree)
+FitsWithin zero tree = FitsFlat (out-Json tree)
+FitsWithin (suc levels) tree = FitsOver (FitsWithin levels) (out-Json tree)

@@ -1,131 +1,83 @@
--- The value grammar of RFC 8259 on bytes. A number is its text, and members keep their order.
-use Rattle.std.specs.Prelude.{◌≡◌, ℕ, zero, suc, Bool, true, false, ◌==◌, ◌||◌, ◌&&◌, not, nat_le, ◌⊎◌, List, [], ◌∷◌, ◌++◌, codes}
-use Rattle.std.specs.List.{list_all}
-use Rattle.std.specs.Str.{IsUtf8}
-use Rattle.rt_json.specs.declared.tree.Json.{Json, out-Json}
-use Rattle.rt_json.specs.declared.tree.Json.TheOpen.{Json-F}
-use Rattle.rt_json.specs.declared.tree.Member.{Member}
+-- JSON texts and their trees, RFC 8259. Each phrase leads from bytes to bytes: xs is the phrase, read so, and then ys.
+use Rattle.std.specs.Prelude.{◌≡◌, ℕ, suc, ◌+◌, ◌<◌, ◌≤◌, Bool, true, false, ◌==◌, ◌||◌, List, [], ◌∷◌, ◌++◌, length, take}
+use Rattle.rt_value.specs.Places.{Begins}
+use Rattle.rt_json.specs.declared.tree.Json.{Json}
+use Rattle.rt_json.specs.declared.tree.Json.TheVariants as j
+use Rattle.rt_json.specs.declared.tree.named.Member.{Member}
+use Rattle.rt_json.specs.Text.{IsNumber, IsText}
 
 -- section 2: space, tab, LF, CR
 abbrev pub is_blank : ℕ → Bool
 is_blank b = (b == 32) || (b == 9) || (b == 10) || (b == 13)
 
-abbrev pub IsBlanks : List ℕ → Type 0
-IsBlanks bytes = list_all is_blank bytes ≡ true
+pub data AreBlanks : List ℕ → List ℕ → Type 0 where
+  no_blank : {xs : List ℕ} → AreBlanks xs xs
+  blank : {b : ℕ} {xs ys : List ℕ} → is_blank b ≡ true → AreBlanks xs ys → AreBlanks (b ∷ xs) ys
 
-abbrev pub is_digit : ℕ → Bool
-is_digit b = nat_le 48 b && nat_le b 57
+abbrev pub member : List ℕ → Json → Member
+member name value = record { name = name; value = value }
 
--- one or more digits
-abbrev pub IsDigits : List ℕ → Type 0
-IsDigits [] = ⊥
-IsDigits (b ∷ bs) = list_all is_digit (b ∷ bs) ≡ true
+mutual
+  -- a value whose lists and objects nest in at most so many levels
+  pub data IsValue : ℕ → Json → List ℕ → List ℕ → Type 0 where
+    null : {n : ℕ} {xs : List ℕ} → IsValue n j.Null (110 ∷ 117 ∷ 108 ∷ 108 ∷ xs) xs
+    truth : {n : ℕ} {xs : List ℕ} → IsValue n (j.Bool true) (116 ∷ 114 ∷ 117 ∷ 101 ∷ xs) xs
+    falsity : {n : ℕ} {xs : List ℕ} → IsValue n (j.Bool false) (102 ∷ 97 ∷ 108 ∷ 115 ∷ 101 ∷ xs) xs
+    number : {n : ℕ} {text xs : List ℕ} → IsNumber text → IsValue n (j.Num text) (text ++ xs) xs
+    text : {n : ℕ} {text xs ys : List ℕ} → IsText text xs ys → IsValue n (j.Text text) xs ys
+    no_items : {n : ℕ} {xs ys : List ℕ} → AreBlanks xs (93 ∷ ys) → IsValue (suc n) (j.List []) (91 ∷ xs) ys
+    items : {n : ℕ} {v : Json} {all : List Json} {xs ys zs us : List ℕ}
+        → AreBlanks xs ys → IsValue n v ys zs → MoreItems n (v ∷ []) all zs us → IsValue (suc n) (j.List all) (91 ∷ xs) us
+    no_members : {n : ℕ} {xs ys : List ℕ} → AreBlanks xs (125 ∷ ys) → IsValue (suc n) (j.Object []) (123 ∷ xs) ys
+    members : {n : ℕ} {m : Member} {all : List Member} {xs ys zs : List ℕ}
+        → IsMember n m xs ys → MoreMembers n (m ∷ []) all ys zs → IsValue (suc n) (j.Object all) (123 ∷ xs) zs
 
--- section 6: a number is its parts in a row
-abbrev pub IsMinus : List ℕ → Type 0
-IsMinus bytes = (bytes ≡ []) ⊎ (bytes ≡ 45 ∷ [])
+  -- behind the items `before` stand the rest of `all`, each with a comma before it, and the bracket
+  pub data MoreItems : ℕ → List Json → List Json → List ℕ → List ℕ → Type 0 where
+    close_list : {n : ℕ} {all : List Json} {xs ys : List ℕ} → AreBlanks xs (93 ∷ ys) → MoreItems n all all xs ys
+    next_item : {n : ℕ} {v : Json} {before all : List Json} {ws xs ys zs us : List ℕ}
+        → AreBlanks ws (44 ∷ xs) → AreBlanks xs ys → IsValue n v ys zs → MoreItems n (before ++ v ∷ []) all zs us → MoreItems n before all ws us
 
-abbrev pub IsWhole : List ℕ → Type 0
-IsWhole [] = ⊥
-IsWhole (b ∷ bs) = ((b ≡ 48) × (bs ≡ [])) ⊎ ((is_digit b ≡ true) × ((b == 48) ≡ false) × (list_all is_digit bs ≡ true))
+  -- a name, a colon and a value
+  pub data IsMember : ℕ → Member → List ℕ → List ℕ → Type 0 where
+    named : {n : ℕ} {name : List ℕ} {v : Json} {ws xs ys zs us vs : List ℕ}
+        → AreBlanks ws xs → IsText name xs ys → AreBlanks ys (58 ∷ zs) → AreBlanks zs us → IsValue n v us vs → IsMember n (member name v) ws vs
 
-abbrev pub IsFraction : List ℕ → Type 0
-IsFraction [] = Unit {0}
-IsFraction (b ∷ bs) = (b ≡ 46) × IsDigits bs
+  pub data MoreMembers : ℕ → List Member → List Member → List ℕ → List ℕ → Type 0 where
+    close_object : {n : ℕ} {all : List Member} {xs ys : List ℕ} → AreBlanks xs (125 ∷ ys) → MoreMembers n all all xs ys
+    next_member : {n : ℕ} {m : Member} {before all : List Member} {ws xs ys zs : List ℕ}
+        → AreBlanks ws (44 ∷ xs) → IsMember n m xs ys → MoreMembers n (before ++ m ∷ []) all ys zs → MoreMembers n before all ws zs
 
-abbrev pub IsSign : List ℕ → Type 0
-IsSign bytes = (bytes ≡ []) ⊎ (bytes ≡ 43 ∷ []) ⊎ (bytes ≡ 45 ∷ [])
+-- the bytes are one value with blanks around it, in at most so many levels
+pub record IsWithin (levels : ℕ) (tree : Json) (bytes : List ℕ) : Type 0 where
+  pub first : List ℕ
+  pub last : List ℕ
+  pub before : AreBlanks bytes first
+  pub value : IsValue levels tree first last
+  pub after : AreBlanks last []
 
-abbrev pub IsExponent : List ℕ → Type 0
-IsExponent [] = Unit {0}
-IsExponent (b ∷ bs) = (((b == 101) || (b == 69)) ≡ true) × (sign : List ℕ) × (digits : List ℕ) × (bs ≡ sign ++ digits) × IsSign sign × IsDigits digits
-
-pub record IsNumber (bytes : List ℕ) : Type 0 where
-  pub minus : List ℕ
-  pub whole : List ℕ
-  pub fraction : List ℕ
-  pub exponent : List ℕ
-  pub parts : bytes ≡ minus ++ (whole ++ (fraction ++ exponent))
-  pub is_minus : IsMinus minus
-  pub is_whole : IsWhole whole
-  pub is_fraction : IsFraction fraction
-  pub is_exponent : IsExponent exponent
-
--- section 7, for bytes without an escape
-abbrev pub is_plain : ℕ → Bool
-is_plain b = nat_le 32 b && not (b == 34) && not (b == 92)
-
-pub record IsQuoted (bytes text : List ℕ) : Type 0 where
-  pub quotes : bytes ≡ 34 ∷ (text ++ 34 ∷ [])
-  pub plain : list_all is_plain text ≡ true
-  pub utf8 : IsUtf8 text
-
--- with blanks around it
-pub record Surrounded (V : List ℕ → Json → Type 0) (bytes : List ℕ) (tree : Json) : Type 0 where
-  pub before : List ℕ
-  pub inner : List ℕ
-  pub after : List ℕ
-  pub parts : bytes ≡ before ++ (inner ++ after)
-  pub blanks_before : IsBlanks before
-  pub value : V inner tree
-  pub blanks_after : IsBlanks after
-
--- one or more, with commas between them
-abbrev pub Joined : {X : Type 0} → (List ℕ → X → Type 0) → List ℕ → List X → Type 0
-Joined E bytes [] = ⊥
-Joined E bytes (x ∷ []) = E bytes x
-Joined E bytes (x ∷ y ∷ xs) = (first : List ℕ) × (rest : List ℕ) × (bytes ≡ first ++ 44 ∷ rest) × E first x × Joined E rest (y ∷ xs)
-
-abbrev pub Listed : {X : Type 0} → (List ℕ → X → Type 0) → List ℕ → List X → Type 0
-Listed E bytes [] = IsBlanks bytes
-Listed E bytes (x ∷ xs) = Joined E bytes (x ∷ xs)
-
-pub record IsMember (V : List ℕ → Json → Type 0) (bytes : List ℕ) (member : Member) : Type 0 where
-  pub before : List ℕ
-  pub name : List ℕ
-  pub between : List ℕ
-  pub value : List ℕ
-  pub parts : bytes ≡ before ++ (name ++ (between ++ 58 ∷ value))
-  pub blanks_before : IsBlanks before
-  pub is_name : IsQuoted name member.name
-  pub blanks_between : IsBlanks between
-  pub is_value : Surrounded V value member.value
-
-pub record IsBracketed {X : Type 0} (E : List ℕ → X → Type 0) (left right : ℕ) (bytes : List ℕ) (xs : List X) : Type 0 where
-  pub inner : List ℕ
-  pub brackets : bytes ≡ left ∷ (inner ++ right ∷ [])
-  pub listed : Listed E inner xs
-
-abbrev pub truth_text : Bool → List ℕ
-truth_text true = codes "true"
-truth_text false = codes "false"
-
--- a value in which no list and no object stands
-abbrev pub IsPlainValue : List ℕ → Json-F Json Member → Type 0
-IsPlainValue bytes Json-F.Null = bytes ≡ codes "null"
-IsPlainValue bytes (Json-F.Bool b) = bytes ≡ truth_text b
-IsPlainValue bytes (Json-F.Num text) = (bytes ≡ text) × IsNumber text
-IsPlainValue bytes (Json-F.Text text) = IsQuoted bytes text
-IsPlainValue bytes (Json-F.List items) = ⊥
-IsPlainValue bytes (Json-F.Object members) = ⊥
-
--- a value whose lists and objects hold what V says
-abbrev pub IsValueOver : (List ℕ → Json → Type 0) → List ℕ → Json-F Json Member → Type 0
-IsValueOver V bytes Json-F.Null = IsPlainValue bytes Json-F.Null
-IsValueOver V bytes (Json-F.Bool b) = IsPlainValue bytes (Json-F.Bool b)
-IsValueOver V bytes (Json-F.Num text) = IsPlainValue bytes (Json-F.Num text)
-IsValueOver V bytes (Json-F.Text text) = IsPlainValue bytes (Json-F.Text text)
-IsValueOver V bytes (Json-F.List items) = IsBracketed (Surrounded V) 91 93 bytes items
-IsValueOver V bytes (Json-F.Object members) = IsBracketed (IsMember V) 123 125 bytes members
-
--- a value with at most so many lists and objects open at a place
-abbrev pub IsValue : ℕ → List ℕ → Json → Type 0
-IsValue zero bytes tree = IsPlainValue bytes (out-Json tree)
-IsValue (suc depth) bytes tree = IsValueOver (IsValue depth) bytes (out-Json tree)
-
-abbrev pub max_depth : ℕ
-max_depth = 64
+abbrev pub max_levels : ℕ
+max_levels = 64
 
 -- the bytes are the tree
 abbrev pub IsJson : List ℕ → Json → Type 0
-IsJson bytes tree = Surrounded (IsValue max_depth) bytes tree
+IsJson bytes tree = IsWithin max_levels tree bytes
+
+-- the bytes begin a value of whatever depth
+abbrev pub BeginsValue : List ℕ → Type 0
+BeginsValue bytes = (levels : ℕ) × Begins (IsWithin levels) bytes
+
+-- The byte at this place is the first with which the bytes up to it begin no value, or it is the end and all the bytes begin a value and are none.
+pub record IsBadAt (bytes : List ℕ) (at : ℕ) : Type 0 where
+  pub within : at ≤ length bytes
+  pub before : Begins (IsWithin max_levels) (take at bytes)
+  pub stuck : at < length bytes → BeginsValue (take (at + 1) bytes) → ⊥
+  pub unfinished : at ≡ length bytes → (levels : ℕ) (tree : Json) → IsWithin levels tree bytes → ⊥
+
+-- The byte at this place begins a list or an object below the last level: the bytes before it begin a value,
+-- and with it they begin deeper values alone.
+pub record IsTooDeepAt (bytes : List ℕ) (at : ℕ) : Type 0 where
+  pub within : at < length bytes
+  pub before : Begins (IsWithin max_levels) (take at bytes)
+  pub begins : BeginsValue (take (at + 1) bytes)
+  pub deeper : Begins (IsWithin max_levels) (take (at + 1) bytes) → ⊥

@@ -1,6 +1,12 @@
-pub mod Written
-pub mod Machine
-pub mod Grammar
-pub mod Reads
+pub mod Answers
+pub mod Computes
 pub mod Fits
+pub mod Grammar
 pub mod Lookup
+pub mod Machine
+pub mod Reads
+pub mod States
+pub mod Text
+pub mod Trees
+pub mod Words
+pub mod Written

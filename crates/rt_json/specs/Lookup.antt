@@ -1,22 +1,27 @@
 -- What an object has under a name.
-use Rattle.std.specs.Prelude.{ℕ, List, [], Option, option_map, find, reverse}
+use Rattle.std.specs.Prelude.{ℕ, List, [], ◌∷◌, Option, Some, None, if◌then◌else◌}
 use Rattle.std.specs.Str.{bytes_eq}
-use Rattle.rt_json.specs.declared.tree.Json.{Json, out-Json}
-use Rattle.rt_json.specs.declared.tree.Json.TheOpen.{Json-F}
-use Rattle.rt_json.specs.declared.tree.Member.{Member}
+use Rattle.rt_json.specs.Grammar.{member}
+use Rattle.rt_json.specs.declared.tree.Json.{Json, Object', Row_of-Member, end_of-Member, more_of-Member}
+use Rattle.rt_json.specs.declared.tree.named.Member.{Member}
 
-abbrev pub layer_members : Json-F Json Member → List Member
-layer_members Json-F.Null = []
-layer_members (Json-F.Bool b) = []
-layer_members (Json-F.Num digits) = []
-layer_members (Json-F.Text text) = []
-layer_members (Json-F.List items) = []
-layer_members (Json-F.Object members) = members
+abbrev pub row_members : {n : _} → Row_of-Member n → List Member
+row_members end_of-Member = []
+row_members (more_of-Member name value rest) = member name value ∷ row_members rest
 
 -- the members of an object, and none of another tree
 abbrev pub members_of : Json → List Member
-members_of tree = layer_members (out-Json tree)
+members_of (Object' shape row) = row_members row
+members_of _ = []
 
--- the value of the last member of a name
+abbrev pub or_else : Option Json → Option Json → Option Json
+or_else (Some tree) other = Some tree
+or_else None other = other
+
+-- the value of the last member of the name
+abbrev pub last_named : List ℕ → List Member → Option Json
+last_named name [] = None
+last_named name (m ∷ ms) = or_else (last_named name ms) (if bytes_eq m.name name then Some m.value else None)
+
 abbrev pub member_of : Json → List ℕ → Option Json
-member_of tree name = option_map (λ m. m.value) (find (λ m. bytes_eq m.name name) (reverse (members_of tree)))
+member_of tree name = last_named name (members_of tree)

@@ -1,19 +1,23 @@
-//! JSON trees by RFC 8259: the tree of a text, the text of a tree, the last member of a name.
-//!
-//! This version reads texts and names without escapes, and at most 64 lists and objects inside each other.
+//! JSON, RFC 8259: texts read as trees, and trees written as texts.
 #![tactic(auto)]
 
+mod bytes;
 mod copying;
+mod fault;
 mod lookup;
-mod machine;
 mod reading;
+mod scalar;
+mod scan;
 mod stack;
-#[cfg(test)]
-mod tests;
+mod state;
+mod stop;
+mod text;
 mod tree;
 mod writing;
 
+pub use fault::JsonFault;
 pub use lookup::member;
-pub use reading::{JsonFault, one_tree, read, written_again};
-pub use tree::{Json, Member};
+pub use reading::{one_fault, one_tree, read};
+pub use tree::Json;
+pub use tree::named::Member;
 pub use writing::write;

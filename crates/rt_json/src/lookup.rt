@@ -1,28 +1,26 @@
-ghost use Rattle.std.specs.Prelude.{◌≡◌, option_copied, find, reverse};
-ghost use Rattle.std.specs.Str.{bytes_eq};
-ghost use Rattle.rt_json.specs.Lookup.{member_of};
+ghost use Rattle.std.specs.Prelude.{◌≡◌, MatchOption, None, Some};
+ghost use Rattle.rt_json.specs.Lookup.{member_of, last_named};
 
-use crate::tree::{Json, Member};
+use crate::tree::Json;
+use crate::tree::named::Member;
 
-fn last_named<'a>(members: &'a [Member], name: &str) -> Option<&'a Member>
-    ensures { option_copied result ≡ find (λ m. bytes_eq m.name name.now) (reverse members.now) }
+fn last_named<'a>(members: &'a [Member], name: &str) -> Option<&'a Json>
+    ensures { MatchOption result (last_named name.now members.now ≡ None) (λ tree. last_named name.now members.now ≡ Some tree.now) }
 {
-    members
-        .iter()
-        .rev()
-        .find(|member| member.name.get() == name)
+    for member in members.iter().rev() {
+        if member.name.get() == name {
+            return Some(&member.value);
+        }
+    }
+    None
 }
 
-/// What an object has under a name, the last member's value where the name comes again. A tree that is no object has
-/// nothing.
+/// The value of the last member of the name; None where there is none, or the tree is no object.
 pub fn member<'a>(tree: &'a Json, name: &str) -> Option<&'a Json>
-    ensures { option_copied result ≡ member_of tree.now name.now }
+    ensures { MatchOption result (member_of tree.now name.now ≡ None) (λ found. member_of tree.now name.now ≡ Some found.now) }
 {
-    let Json::Object(members) = tree else {
-        return None;
-    };
-    match last_named(members.get(), name) {
-        Some(found) => Some(&found.value),
-        None => None,
+    match tree {
+        Json::Object(members) => last_named(members.get(), name),
+        _ => None,
     }
 }

@@ -1,7 +1,9 @@
+pub mod named;
+
+use named::Member;
 use rt_value::{List, Text};
 
-/// A JSON value, RFC 8259, section 3. A number is its text, digit for digit; an object keeps its members in order, also
-/// those of one name.
+/// A JSON value. A number is kept as its text, and an object keeps its members in order, also where a name comes again.
 #[cycle(tree)]
 #[derive(Drop)]
 pub enum Json {
@@ -11,12 +13,4 @@ pub enum Json {
     Text(Text),
     List(List<Json>),
     Object(List<Member>),
-}
-
-/// A member of an object.
-#[cycle(tree)]
-#[derive(Drop)]
-pub struct Member {
-    pub name: Text,
-    pub value: Json,
 }

@@ -1,16 +1,20 @@
-ghost use Rattle.std.specs.Prelude.{◌≡◌, ◌++◌, ◌∷◌, [], ◌<◌, ◌^◌, ℕ, map, flat_map, OnOk, IfOk, ◌/◌, ◌%◌};
-ghost use Rattle.std.specs.List.{join_with_byte};
-ghost use Rattle.rt_json.specs.Written.{written, written_member, quoted, written_byte, hex_digit, truth_text, comma_before};
+ghost use Rattle.std.specs.Prelude.{◌≡◌, ◌++◌, ◌∷◌, [], ◌<◌, flat_map, OnOk, IfOk};
+ghost use Rattle.rt_json.specs.Written.{written, written_member, listed, quoted, written_byte, hex_digit, comma_before};
 
-use crate::tree::{Json, Member};
+use crate::tree::Json;
+use crate::tree::named::Member;
 use rt_value::Bytes;
 use std::alloc::{AllocError, Global};
 
-fn hex_of(n: u8) -> u8
-    requires { n < 16 }
-    ensures { result ≡ hex_digit n }
+fn hex_digit(value: u8) -> u8
+    requires { value < 16 }
+    ensures { result ≡ hex_digit value }
 {
-    if n < 10 { 48 + n } else { 87 + n }
+    if value < 10 {
+        b'0' + value
+    } else {
+        87 + value
+    }
 }
 
 #[tactic(auto, unfolding(crate::specs::Written::written_byte))]
@@ -18,13 +22,20 @@ fn write_byte(out: &mut Vec<u8>, byte: u8) -> Result<(), AllocError>
     ensures { OnOk result (out.new.items ≡ out.old.items ++ written_byte byte) }
 {
     match byte {
-        34 | 92 => out.extend_from_slice(&[92, byte]),
+        b'"' | b'\\' => out.extend_from_slice(&[b'\\', byte]),
         8 => out.extend_from_slice(b"\\b"),
-        9 => out.extend_from_slice(b"\\t"),
-        10 => out.extend_from_slice(b"\\n"),
+        b'\t' => out.extend_from_slice(b"\\t"),
+        b'\n' => out.extend_from_slice(b"\\n"),
         12 => out.extend_from_slice(b"\\f"),
-        13 => out.extend_from_slice(b"\\r"),
-        0..=31 => out.extend_from_slice(&[92, 117, 48, 48, hex_of(byte / 16), hex_of(byte % 16)]),
+        b'\r' => out.extend_from_slice(b"\\r"),
+        0..=31 => out.extend_from_slice(&[
+            b'\\',
+            b'u',
+            b'0',
+            b'0',
+            hex_digit(byte / 16),
+            hex_digit(byte % 16),
+        ]),
         _ => out.extend_from_slice(&[byte]),
     }
 }
@@ -66,7 +77,7 @@ fn write_value(out: &mut Vec<u8>, tree: &Json) -> Result<(), AllocError>
 
 #[cycle(write)]
 fn write_items(out: &mut Vec<u8>, items: &[Json]) -> Result<(), AllocError>
-    ensures { OnOk result (out.new.items ≡ out.old.items ++ 91 ∷ join_with_byte 44 (map written items.now) ++ 93 ∷ []) }
+    ensures { OnOk result (out.new.items ≡ out.old.items ++ 91 ∷ listed written items.now ++ 93 ∷ []) }
 {
     out.push(b'[')?;
     for (i, item) in items.iter().enumerate() {
@@ -79,7 +90,7 @@ fn write_items(out: &mut Vec<u8>, items: &[Json]) -> Result<(), AllocError>
 
 #[cycle(write)]
 fn write_members(out: &mut Vec<u8>, members: &[Member]) -> Result<(), AllocError>
-    ensures { OnOk result (out.new.items ≡ out.old.items ++ 123 ∷ join_with_byte 44 (map written_member members.now) ++ 125 ∷ []) }
+    ensures { OnOk result (out.new.items ≡ out.old.items ++ 123 ∷ listed written_member members.now ++ 125 ∷ []) }
 {
     out.push(b'{')?;
     for (i, member) in members.iter().enumerate() {
@@ -99,9 +110,10 @@ fn write_member(out: &mut Vec<u8>, member: &Member) -> Result<(), AllocError>
     write_value(out, &member.value)
 }
 
-/// The one text of a tree, without blanks and with the members in their order. Fails for want of memory alone.
+/// The one spelling of a tree: no blanks, the members in order, and no escape that isn't needed. Fails for want of
+/// memory alone.
 pub fn write(alloc: Global, tree: &Json) -> Result<Bytes, AllocError>
-    ensures { IfOk result (λ b. b ≡ written tree.now) }
+    ensures { IfOk result (λ bytes. bytes ≡ written tree.now) }
 {
     let mut out = Vec::new(alloc);
     write_value(&mut out, tree)?;

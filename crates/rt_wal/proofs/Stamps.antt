@@ -6,7 +6,7 @@ use Rattle.rt_json.specs.declared.tree.Json.{Json, out-Json}
 use Rattle.rt_json.specs.declared.tree.Json.TheVariants as j
 use Rattle.rt_json.specs.declared.tree.Json.TheVariants.{outs-Text}
 use Rattle.rt_json.specs.declared.tree.Json.TheOpen.{Json-F}
-use Rattle.rt_json.specs.declared.tree.Member.{Member}
+use Rattle.rt_json.specs.declared.tree.named.Member.{Member}
 use Rattle.rt_json.specs.Lookup.{member_of}
 use Rattle.rt_wal.specs.Times.{IsInstant, IsMoment, IsTimeAt, IsTimeIn, utc_text}
 

@@ -5,7 +5,7 @@ use Rattle.jiff.specs.Words.{civil_nanos, nanos_of_seconds, datetime_text, signe
 use Rattle.jiff_fmt.specs.Text.{pad2}
 use Rattle.rt_json.specs.declared.tree.Json.{Json, out-Json}
 use Rattle.rt_json.specs.declared.tree.Json.TheOpen.{Json-F}
-use Rattle.rt_json.specs.declared.tree.Member.{Member}
+use Rattle.rt_json.specs.declared.tree.named.Member.{Member}
 use Rattle.rt_json.specs.Lookup.{member_of}
 use Rattle.rt_wal.specs.declared.faults.RecordWhy.TheVariants as why
 use Rattle.rt_wal.specs.declared.faults.WalFault.{WalFault}

@@ -32,7 +32,10 @@ fn tree_of(alloc: Global, text: &[u8]) -> Result<Json, WalFault>
     match read(alloc, text) {
         Ok(tree) => Ok(tree),
         Err(JsonFault::NoMemory) => Err(WalFault::NoMemory),
-        Err(JsonFault::Bad) => Err(WalFault::BadRecord {
+        Err(JsonFault::Bad { .. }) => Err(WalFault::BadRecord {
+            why: RecordWhy::Json,
+        }),
+        Err(JsonFault::TooDeep { .. }) => Err(WalFault::BadRecord {
             why: RecordWhy::Json,
         }),
     }

@@ -1,10 +1,11 @@
-use Rattle.std.proofs.Common.{◌≡◌, ◌++◌, ◌∷◌, map, take}
-use Rattle.std.specs.List.{join_with_byte}
-use Rattle.rt_json.specs.Written.{written, written_member}
+use Rattle.std.proofs.Common.{◌≡◌, ◌++◌, ◌∷◌, [], drop}
+use Rattle.rt_json.specs.Written.{written, written_member, listed}
+use Rattle.rt_json.proofs.Spelled.{left_listed}
 use Rattle.rt_json.proofs.writing.+write.Given as goal
 
+-- what is written and what is left to write are the whole
 abbrev pub invariant-write_items-loop-i : goal.invariant-write_items-loop-i
-invariant-write_items-loop-i l = l.out.items ≡ l.fn.out.items ++ 91 ∷ join_with_byte 44 (map written (take l.i l.items))
+invariant-write_items-loop-i l = l.out.items ++ left_listed written l.i (drop l.i l.items) ≡ l.fn.out.items ++ 91 ∷ listed written l.items
 
 abbrev pub invariant-write_members-loop-i : goal.invariant-write_members-loop-i
-invariant-write_members-loop-i l = l.out.items ≡ l.fn.out.items ++ 123 ∷ join_with_byte 44 (map written_member (take l.i l.members))
+invariant-write_members-loop-i l = l.out.items ++ left_listed written_member l.i (drop l.i l.members) ≡ l.fn.out.items ++ 123 ∷ listed written_member l.members

@@ -1,0 +1,10 @@
+//! The catalogue: tables, roles, grants and row security, read from a part of PostgreSQL's statements ("SQL Commands").
+#![tactic(auto)]
+
+mod catalog;
+mod fault;
+mod statement;
+
+pub use catalog::{Catalog, Column, Grant, Role, Table};
+pub use fault::{CatalogFault, Why};
+pub use statement::{Command, Item, Login, Mark, PolicyText, Statement, TableName};

@@ -1,0 +1,41 @@
+use rt_json::Json;
+use rt_value::{Cells, Edit, List, Text};
+
+/// What a change does to rows of its table.
+#[derive(Clone, Copy, Debug, Drop, PartialEq, Eq)]
+pub enum Verb {
+    Insert,
+    Update,
+    Delete,
+    /// Empties the table, and is sent to nobody.
+    Truncate,
+}
+
+/// A change of a table of the catalogue. The cells and the trees are one per column of the table.
+#[derive(Drop)]
+pub struct Change {
+    pub table: u32,
+    pub verb: Verb,
+    /// Whether the record names its primary key.
+    pub has_key: bool,
+    /// The bytes of the record's line.
+    pub size: usize,
+    /// The commit time as it is shown.
+    pub moment: Option<Text>,
+    /// The row as it is after the change, where the record gives it.
+    pub new: Cells,
+    /// What identifies the row as it was before.
+    pub old: Cells,
+    pub new_trees: List<Option<Json>>,
+    pub old_trees: List<Option<Json>>,
+    /// What the change does to the rebuilt table.
+    pub edit: Edit,
+}
+
+/// A record bound to the catalogue.
+#[derive(Drop)]
+pub enum Bound {
+    Change(Change),
+    /// The record changes no table of the catalogue.
+    Skip,
+}

@@ -1,0 +1,100 @@
+-- Whether a join or a renewal is accepted, and what it makes of the channel; or the first reason against it (the Realtime protocol, "Joining a
+-- channel"; the reasons' texts are this project's).
+use Rattle.std.specs.Prelude.{ℕ, ◌+◌, nat_lt, Bool, true, false, not, List, [], ◌∷◌, ◌++◌, map, length, codes, Option, Some, None, Result, Ok, Err}
+use Rattle.std.specs.Fmt.{decimal}
+use Rattle.std.specs.Str.{bytes_eq}
+use Rattle.rt_value.specs.declared.claims.Claims.{Claims}
+use Rattle.rt_json.specs.declared.tree.Json.{Json}
+use Rattle.rt_json.specs.Lookup.{member_of}
+use Rattle.rt_json.specs.Trees.{is_null}
+use Rattle.rt_token.specs.declared.fault.TokenFault.{TokenFault}
+use Rattle.rt_token.specs.Asked.{claims_asked, seconds_of, fault_text}
+use Rattle.rt_phx.specs.declared.message.Message.{Message}
+use Rattle.rt_phx.specs.Joins.{Asked, config_of}
+use Rattle.rt_catalog.specs.declared.catalog.Catalog.{Catalog}
+use Rattle.rt_registry.specs.declared.binding.Binding.{Binding}
+use Rattle.rt_registry.specs.declared.fault.RegistryFault.{RegistryFault}
+use Rattle.rt_registry.specs.declared.fault.RegistryFault.TheVariants.{NoMemory, UnknownRole, Limit, BadBinding}
+use Rattle.rt_registry.specs.Bindings.{role_for, bindings_for, why_text}
+use Rattle.rt_entry.specs.declared.input.Settings.{Settings}
+use Rattle.rt_entry.specs.declared.story.Opening.{Opening}
+use Rattle.rt_entry.specs.declared.story.Channel.{Channel}
+use Rattle.rt_entry.specs.Story.{Now, Standing}
+
+-- a value, or the reason that is told
+abbrev pub Checked : Type 0 → Type 0
+Checked A = Result A (List ℕ)
+
+infixl 10 ◌>>◌
+abbrev pub ◌>>◌ : {A B : Type 0} → Checked A → (A → Checked B) → Checked B
+(Ok x) >> f = f x
+(Err why) >> f = Err why
+
+abbrev pub or_why : {A : Type 0} → List ℕ → Option A → Checked A
+or_why why None = Err why
+or_why why (Some x) = Ok x
+
+abbrev pub demand : Bool → List ℕ → Checked Bool
+demand true why = Ok true
+demand false why = Err why
+
+abbrev pub told_by : {A E : Type 0} → (E → List ℕ) → Result A E → Checked A
+told_by text (Ok x) = Ok x
+told_by text (Err e) = Err (text e)
+
+abbrev pub registry_text : RegistryFault → List ℕ
+registry_text NoMemory = codes "out of memory"
+registry_text UnknownRole = codes "unknown role"
+registry_text (Limit n) = codes "too many bindings"
+registry_text (BadBinding n why) = codes "binding " ++ decimal n ++ codes ": " ++ why_text why
+
+-- the most channels of a slot
+abbrev pub channel_limit : ℕ
+channel_limit = 100
+
+abbrev pub binding_of : Asked → Binding
+binding_of a = record { wanted = a.event; schema = a.schema; table = a.table; filter = a.filter }
+
+-- the key that a channel tracks under: without one, or with an empty one, the join's number
+abbrev pub key_of : ℕ → List ℕ → List ℕ
+key_of number key = elim (bytes_eq key []) [ true ↦ decimal number | false ↦ key ]
+
+-- a channel's join_ref is that of its join, or the join's ref where that is null
+abbrev pub join_ref_of : Message → Json
+join_ref_of m = elim (is_null m.join_ref) [ true ↦ m.reference | false ↦ m.join_ref ]
+
+-- the claims that a payload asks for, at the moment before it
+abbrev pub asked_claims : Settings → Now → Opening → Option Json → Checked Claims
+asked_claims s now o token = told_by fault_text (claims_asked s.secret (seconds_of now.moment) o.claims token)
+
+-- the channel that a join makes, or the first reason against it; `others` is how many channels the slot has beside one of the same topic
+unfoldable pub channel_of_join : Catalog → Settings → Now → ℕ → Opening → ℕ → Message → Checked Channel
+channel_of_join c s now slot o others m =
+    or_why (codes "bad config") (config_of m.payload) >> λ config.
+    demand (not config.private) (codes "private channel") >> λ _.
+    asked_claims s now o (member_of m.payload (codes "access_token")) >> λ claims.
+    told_by registry_text (role_for c claims) >> λ role.
+    demand (nat_lt others channel_limit) (codes "too many channels") >> λ _.
+    told_by registry_text (bindings_for c claims (map binding_of config.bindings)) >> λ bindings.
+    Ok (record {
+      number = now.number;
+      slot = slot;
+      topic = m.topic;
+      join_ref = join_ref_of m;
+      role = role;
+      claims = claims;
+      bindings = bindings;
+      first_id = now.ids + 1;
+      ack = config.ack;
+      own = config.own;
+      presence = config.presence;
+      key = key_of now.number config.key;
+    })
+
+-- the role and the claims that a token gives a channel, or the first reason against them: the token, the role, the channel's bindings
+unfoldable pub renewal_of : Catalog → Settings → Now → Opening → Channel → Json → Checked Standing
+renewal_of c s now o ch token =
+    asked_claims s now o (Some token) >> λ claims.
+    told_by registry_text (role_for c claims) >> λ role.
+    told_by registry_text (bindings_for c claims (map (λ b. b.binding) ch.bindings)) >> λ _.
+    Ok (record { role = role; claims = claims })

@@ -1,0 +1,10 @@
+pub mod Access
+pub mod Answers
+pub mod Audit
+pub mod Doings
+pub mod Headline
+pub mod Joining
+pub mod Machine
+pub mod Messages
+pub mod Presence
+pub mod Story

@@ -1,0 +1,76 @@
+-- The messages of a channel (the Realtime protocol, "Channels" and "Presence").
+use Rattle.std.specs.Prelude.{ℕ, not, List, [], ◌∷◌, ◌++◌, map, drop, length, codes, Option, Some, None}
+use Rattle.std.specs.Fmt.{decimal}
+use Rattle.std.specs.List.{filter, enumerate_from}
+use Rattle.std.specs.Str.{bytes_eq}
+use Rattle.std.specs.Ordering.{nat_cmp}
+use Rattle.std.specs.Cmp.Lexicographic.{slice_cmp}
+use Rattle.rt_value.specs.Ordered.{in_order}
+use Rattle.rt_json.specs.declared.tree.Json.{Json, Text}
+use Rattle.rt_json.specs.declared.tree.Json.TheVariants as j
+use Rattle.rt_json.specs.declared.tree.named.Member.{Member}
+use Rattle.rt_json.specs.Lookup.{members_of}
+use Rattle.rt_json.specs.Trees.{field}
+use Rattle.rt_phx.specs.declared.message.Message.{Message}
+use Rattle.rt_phx.specs.Says.{said_on, close_of, subscribed_payload, failed_payload, number_tree, change_payload}
+use Rattle.rt_phx.specs.Asks.{topic_prefix}
+use Rattle.rt_registry.specs.declared.binding.Subscribed.{Subscribed}
+use Rattle.rt_entry.specs.declared.story.Channel.{Channel}
+use Rattle.rt_entry.specs.declared.story.Track.{Track}
+use Rattle.rt_entry.specs.declared.entry.ChannelView.{ChannelView}
+
+abbrev pub channel_message : Channel → List ℕ → Json → Message
+channel_message c event payload = said_on c.join_ref c.topic event payload
+
+abbrev pub close_message : Channel → Message
+close_message c = close_of c.join_ref c.topic
+
+-- the topic without `realtime:`
+abbrev pub channel_name : Channel → List ℕ
+channel_name c = drop (length topic_prefix) c.topic
+
+abbrev pub subscribed_message : Channel → Message
+subscribed_message c = channel_message c (codes "system") (subscribed_payload (channel_name c))
+
+abbrev pub failed_message : Channel → List ℕ → Message
+failed_message c reason = channel_message c (codes "system") (failed_payload reason (channel_name c))
+
+abbrev pub text_field : List ℕ → Option (List ℕ) → List Member
+text_field name None = []
+text_field name (Some t) = field name (Text t) ∷ []
+
+-- a binding with its id; table and filter where the client gave them as texts
+abbrev pub binding_tree : ℕ × Subscribed → Json
+binding_tree b =
+    j.Object (field (codes "id") (number_tree b.0) ∷ field (codes "event") (Text b.1.binding.wanted) ∷ field (codes "schema") (Text b.1.binding.schema)
+    ∷ text_field (codes "table") b.1.binding.table ++ text_field (codes "filter") b.1.binding.filter)
+
+-- the response to an accepted join
+abbrev pub joined_response : Channel → Json
+joined_response c = j.Object (field (codes "postgres_changes") (j.List (map binding_tree (enumerate_from c.first_id c.bindings))) ∷ [])
+
+-- a meta: the track's number as `phx_ref`, then the tracked object's members but one of that name
+abbrev pub meta_tree : Track → Json
+meta_tree t =
+    j.Object (field (codes "phx_ref") (Text (decimal t.reference)) ∷ filter (λ m. not (bytes_eq m.name (codes "phx_ref"))) (members_of t.tree))
+
+abbrev pub metas_of : List Track → List ℕ → Member
+metas_of tracks key = field key (j.Object (field (codes "metas") (j.List (map meta_tree (filter (λ t. bytes_eq t.key key) tracks))) ∷ []))
+
+-- the metas under each key, the keys in byte order, the metas of a key in the order of their tracks
+abbrev pub metas_tree : List Track → Json
+metas_tree tracks = j.Object (map (metas_of tracks) (in_order (slice_cmp nat_cmp) (map (λ t. t.key) tracks)))
+
+abbrev pub presence_state : Channel → List Track → Message
+presence_state c tracks = channel_message c (codes "presence_state") (metas_tree tracks)
+
+abbrev pub presence_diff : Channel → List Track → List Track → Message
+presence_diff c joins leaves =
+    channel_message c (codes "presence_diff") (j.Object (field (codes "joins") (metas_tree joins) ∷ field (codes "leaves") (metas_tree leaves) ∷ []))
+
+abbrev pub broadcast_message : Channel → Json → Message
+broadcast_message c payload = channel_message c (codes "broadcast") payload
+
+-- a change with the ids of the subscriptions that get it
+abbrev pub change_message : ChannelView → List ℕ → Json → Message
+change_message to ids tree = said_on to.join_ref to.topic (codes "postgres_changes") (change_payload ids tree)

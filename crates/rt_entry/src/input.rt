@@ -1,0 +1,74 @@
+use rt_change::Change;
+use rt_phx::Version;
+use rt_value::{Bytes, Claims, List};
+
+/// What the journal takes.
+#[derive(Drop)]
+pub enum Input {
+    /// A socket opened on a slot, with the claims of its key.
+    Opened {
+        slot: u32,
+        version: Version,
+        claims: Claims,
+    },
+    /// A text frame of a client.
+    Frame {
+        slot: u32,
+        bytes: Bytes,
+    },
+    /// The client is gone.
+    Gone {
+        slot: u32,
+    },
+    /// One batch of the stream, as the changes of its records.
+    Poll {
+        changes: List<Change>,
+    },
+    /// The clock's moment in milliseconds.
+    Tick {
+        moment: u64,
+    },
+    /// The stream has ended.
+    Stop,
+}
+
+/// A step of the machine.
+#[derive(Drop)]
+pub enum Step {
+    /// An input of a slot goes into the slot's inlet.
+    Arrive(Input),
+    /// A poll, a stop or a tick goes into the feed or the clock.
+    Feed(Input),
+    /// The journal takes the first input of an inlet, of the feed, of the clock.
+    Take { slot: u32 },
+    TakeFeed,
+    TakeClock,
+    /// The next entry owed to a lane goes into it.
+    Send { lane: u32 },
+    /// A lane's worker takes an entry from its lane.
+    Work { lane: u32 },
+    /// A slot's next pending item goes into its outbox.
+    Push { slot: u32 },
+    /// The first item of an outbox is taken away.
+    Pop { slot: u32 },
+}
+
+/// The limits of a run: 1 to 16 workers; capacity, lane and inlet from 1 to 4096.
+#[derive(Debug, Drop)]
+pub struct Settings {
+    pub workers: u32,
+    /// How many messages an outbox holds.
+    pub capacity: usize,
+    /// How many entries a lane holds.
+    pub lane: usize,
+    /// How many inputs an inlet, the feed and the clock hold.
+    pub inlet: usize,
+    /// How many rows the tables hold.
+    pub rows: usize,
+    /// How many inputs the journal takes.
+    pub inputs: u32,
+    /// The bytes above which a record is too large.
+    pub max_record: usize,
+    /// The secret of tokens.
+    pub secret: Bytes,
+}

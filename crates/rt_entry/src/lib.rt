@@ -1,0 +1,12 @@
+//! The inputs of the journal, what each does and gives, and the machine of steps that carries it to the slots.
+#![tactic(auto)]
+
+mod answer;
+mod entry;
+mod input;
+mod story;
+
+pub use answer::{Answer, Item};
+pub use entry::{ChannelView, Entry};
+pub use input::{Input, Settings, Step};
+pub use story::{Channel, Member, Opening, Part, Track};

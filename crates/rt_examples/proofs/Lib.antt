@@ -1,0 +1,6 @@
+mod CutsComputed
+mod ExpiryComputed
+mod NotesComputed
+mod OwnersComputed
+mod RenewalComputed
+mod TracksComputed

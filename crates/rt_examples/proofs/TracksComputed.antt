@@ -1,0 +1,12 @@
+-- Computed.
+use Rattle.std.proofs.Common.{refl}
+use Rattle.rt_examples.specs.Computes.{computes}
+use Rattle.rt_examples.specs.Tracks.{LeaverGets, WatcherGets}
+
+pub leaver_gets_holds : LeaverGets
+unfolding computes
+leaver_gets_holds = refl
+
+pub watcher_gets_holds : WatcherGets
+unfolding computes
+watcher_gets_holds = refl

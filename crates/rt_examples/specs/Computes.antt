@@ -1,0 +1,32 @@
+-- All that the examples compute with: `unfolding computes` opens it.
+use Rattle.std.specs.Fmt.{digits}
+use Rattle.sha2.specs.Sha256.{sha256, compress, rounds, schedule, first_words, hash_after, digest_bytes}
+use Rattle.base64.specs.GeneralPurpose.{decoded_of}
+use Rattle.base64.specs.Rfc4648.{encode_symbols}
+use Rattle.base64.specs.Decode.{groups_error, groups_bytes, scan_steps}
+use Rattle.rt_token.specs.Hmac.{hmac_sha256}
+use Rattle.rt_token.specs.Claims.{claims_in_tree}
+use Rattle.rt_token.specs.Tokens.{claims_in_token, signed_token}
+use Rattle.rt_value.specs.Edits.{tables_after}
+use Rattle.rt_json.specs.Computes.{json_computes}
+use Rattle.rt_phx.specs.Frame.{message_of}
+use Rattle.rt_phx.specs.Joins.{config_of}
+use Rattle.rt_filter.specs.Written.{filter_of}
+use Rattle.rt_filter.specs.Tests.{test_of}
+use Rattle.rt_registry.specs.Bindings.{bindings_for}
+use Rattle.rt_change.specs.Verdicts.{verdict_of}
+use Rattle.rt_change.specs.Shape.{shape_of}
+use Rattle.rt_entry.specs.Story.{joined, departed, members_at, claims_at, ids_given, all_tracks, present_at, edits_at, every_slot, now_of}
+use Rattle.rt_entry.specs.Joining.{channel_of_join, renewal_of}
+use Rattle.rt_entry.specs.Doings.{subscriptions, poll_parts, doings, story}
+use Rattle.rt_entry.specs.Answers.{told, answers_by, all_answers, answers_of_marks, marks_of, lane_marks}
+use Rattle.rt_entry.specs.Machine.{shown, pending, step_of, run}
+
+unfoldable pub computes : Unit {0}
+unfolding json_computes digits tables_after message_of config_of filter_of test_of bindings_for verdict_of shape_of joined departed members_at claims_at ids_given all_tracks present_at edits_at every_slot now_of channel_of_join renewal_of subscriptions poll_parts doings story told answers_by all_answers answers_of_marks marks_of lane_marks shown pending step_of run
+computes = tt
+
+-- what a token is computed with
+unfoldable pub token_computes : Unit {0}
+unfolding claims_in_token signed_token claims_in_tree hmac_sha256 sha256 compress rounds schedule first_words hash_after digest_bytes decoded_of groups_error groups_bytes scan_steps encode_symbols
+token_computes = tt

@@ -1,0 +1,28 @@
+-- One level of a judge at a time: what a fold over it is.
+use Rattle.std.proofs.Common.{◌≡◌, ℕ, List, sym, ap, ◌∙◌}
+use Rattle.rt_value.specs.declared.value.Value.{Value}
+use Rattle.rt_policy.specs.declared.judge.Comparison.{Comparison}
+use Rattle.rt_policy.specs.declared.judge.Judge.{Judge}
+use Rattle.rt_policy.specs.declared.judge.Judge.TheVariants as judge
+use Rattle.rt_policy.specs.declared.judge.Judge.TheOpen.{Judge-F}
+use Rattle.rt_policy.specs.declared.judge.Judge.TheFolds.{fold-Judge, fold-roll-Judge}
+
+module _ (A : Type 0) (step : Judge-F A → A) where
+  pub fold_literal : (v : Value) → fold-Judge A step (judge.Literal v) ≡ step (Judge-F.Literal v)
+  fold_literal v = ap (fold-Judge A step) (sym (judge.rolls-Literal v)) ∙ fold-roll-Judge A step (Judge-F.Literal v)
+
+  pub fold_outer : (n : ℕ) → fold-Judge A step (judge.Outer n) ≡ step (Judge-F.Outer n)
+  fold_outer n = ap (fold-Judge A step) (sym (judge.rolls-Outer n)) ∙ fold-roll-Judge A step (Judge-F.Outer n)
+
+  pub fold_inner : (n : ℕ) → fold-Judge A step (judge.Inner n) ≡ step (Judge-F.Inner n)
+  fold_inner n = ap (fold-Judge A step) (sym (judge.rolls-Inner n)) ∙ fold-roll-Judge A step (Judge-F.Inner n)
+
+  pub fold_uid : fold-Judge A step judge.Uid ≡ step Judge-F.Uid
+  fold_uid = ap (fold-Judge A step) (sym judge.rolls-Uid) ∙ fold-roll-Judge A step Judge-F.Uid
+
+  pub fold_compare : (op : Comparison) (a b : Judge)
+    → fold-Judge A step (judge.Compare op a b) ≡ step (Judge-F.Compare op (fold-Judge A step a) (fold-Judge A step b))
+  fold_compare op a b = ap (fold-Judge A step) (sym (judge.rolls-Compare op a b)) ∙ fold-roll-Judge A step (Judge-F.Compare op a b)
+
+  pub fold_exists : (t : ℕ) (c : Judge) → fold-Judge A step (judge.Exists t c) ≡ step (Judge-F.Exists t (fold-Judge A step c))
+  fold_exists t c = ap (fold-Judge A step) (sym (judge.rolls-Exists t c)) ∙ fold-roll-Judge A step (Judge-F.Exists t c)

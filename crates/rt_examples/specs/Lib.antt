@@ -1,0 +1,9 @@
+pub mod Computes
+pub mod Cuts
+pub mod Expiry
+pub mod Folds
+pub mod Notes
+pub mod Owners
+pub mod Policies
+pub mod Renewal
+pub mod Tracks

@@ -1,0 +1,72 @@
+-- Two slots on a topic: tracks, a second track, a departure, an untrack that finds nothing, and a second join of the topic.
+use Rattle.std.specs.Prelude.{◌≡◌, ℕ, List, [], ◌∷◌, ◌++◌, codes}
+use Rattle.rt_phx.specs.declared.message.Version.TheVariants.{V1}
+use Rattle.rt_entry.specs.declared.input.Input.{Input}
+use Rattle.rt_entry.specs.declared.input.Input.TheVariants.{Opened, Frame}
+use Rattle.rt_entry.specs.declared.answer.Item.{Item}
+use Rattle.rt_entry.specs.declared.answer.Item.TheVariants.{Message}
+use Rattle.rt_entry.specs.Answers.{due}
+use Rattle.rt_examples.specs.Notes.{notes, settings, authenticated}
+
+abbrev pub on_room : List ℕ → List ℕ → List ℕ → List ℕ
+on_room event payload ref =
+    codes "{\"topic\":\"realtime:room\",\"event\":\"" ++ event ++ codes "\",\"payload\":" ++ payload ++ codes ",\"ref\":" ++ ref ++ codes "}"
+
+abbrev pub join : List ℕ → List ℕ → List ℕ
+join key ref = on_room (codes "phx_join") (codes "{\"config\":{\"presence\":{\"key\":\"" ++ key ++ codes "\"}}}") ref
+
+abbrev pub track : List ℕ → List ℕ → List ℕ
+track tree ref = on_room (codes "presence") (codes "{\"type\":\"presence\",\"event\":\"track\",\"payload\":" ++ tree ++ codes "}") ref
+
+-- the newest first
+abbrev pub journal : List Input
+journal =
+    Frame 1 (join (codes "m") (codes "\"9\""))
+    ∷ Frame 1 (on_room (codes "presence") (codes "{\"type\":\"presence\",\"event\":\"UNTRACK\"}") (codes "\"2\""))
+    ∷ Frame 0 (on_room (codes "phx_leave") (codes "{}") (codes "\"4\""))
+    ∷ Frame 0 (track (codes "{\"x\":2}") (codes "\"3\""))
+    ∷ Frame 1 (join (codes "m") (codes "\"1\""))
+    ∷ Frame 0 (track (codes "{\"x\":1}") (codes "\"2\""))
+    ∷ Frame 0 (join (codes "k") (codes "\"1\""))
+    ∷ Opened 1 V1 authenticated ∷ Opened 0 V1 authenticated ∷ []
+
+abbrev pub said : List ℕ → List ℕ → List ℕ → Item
+said event payload ref = Message (on_room event payload ref)
+
+abbrev pub replied : List ℕ → List ℕ → Item
+replied response ref = said (codes "phx_reply") (codes "{\"status\":\"ok\",\"response\":" ++ response ++ codes "}") ref
+
+abbrev pub first_difference : Item
+first_difference = said (codes "presence_diff") (codes "{\"joins\":{\"k\":{\"metas\":[{\"phx_ref\":\"3\",\"x\":1}]}},\"leaves\":{}}") (codes "null")
+
+abbrev pub second_difference : Item
+second_difference =
+    said (codes "presence_diff") (codes "{\"joins\":{\"k\":{\"metas\":[{\"phx_ref\":\"5\",\"x\":2}]}},\"leaves\":{\"k\":{\"metas\":[{\"phx_ref\":\"3\",\"x\":1}]}}}") (codes "null")
+
+-- the slot that tracks and leaves
+abbrev pub LeaverGets : Type 0
+LeaverGets =
+    due notes settings journal 0 ≡
+    replied (codes "{\"postgres_changes\":[]}") (codes "\"1\"")
+    ∷ said (codes "presence_state") (codes "{}") (codes "null")
+    ∷ replied (codes "{}") (codes "\"2\"")
+    ∷ first_difference
+    ∷ replied (codes "{}") (codes "\"3\"")
+    ∷ second_difference
+    ∷ replied (codes "{}") (codes "\"4\"")
+    ∷ said (codes "phx_close") (codes "{}") (codes "\"1\"")
+    ∷ []
+
+-- The slot that watches. Its untrack finds nothing, and its second join closes its first channel.
+abbrev pub WatcherGets : Type 0
+WatcherGets =
+    due notes settings journal 1 ≡
+    replied (codes "{\"postgres_changes\":[]}") (codes "\"1\"")
+    ∷ said (codes "presence_state") (codes "{\"k\":{\"metas\":[{\"phx_ref\":\"3\",\"x\":1}]}}") (codes "null")
+    ∷ second_difference
+    ∷ said (codes "presence_diff") (codes "{\"joins\":{},\"leaves\":{\"k\":{\"metas\":[{\"phx_ref\":\"5\",\"x\":2}]}}}") (codes "null")
+    ∷ replied (codes "{}") (codes "\"2\"")
+    ∷ said (codes "phx_close") (codes "{}") (codes "\"1\"")
+    ∷ replied (codes "{\"postgres_changes\":[]}") (codes "\"9\"")
+    ∷ said (codes "presence_state") (codes "{}") (codes "null")
+    ∷ []

@@ -1,0 +1,40 @@
+use Rattle.std.proofs.Common.{◌≡◌, ◌≤◌, ℕ, ◌-◌, List, ◌++◌, true, refl, ap, subst, sym, ◌∙◌, arith, take, drop, length, length-append, length-drop}
+use Rattle.std.specs.List.{list_all}
+use Rattle.rt_json.specs.Machine as m
+use Rattle.rt_json.specs.Machine.{bad}
+use Rattle.rt_json.specs.Reads.{is_plain, past_plain, at_text}
+use Rattle.rt_json.proofs.Runs.{plain_run, plain_stops, run_outcome}
+use Rattle.rt_json.proofs.Steps.{slice_rest, slice_is}
+use Rattle.rt_json.proofs.text.utf8.Goals as goal
+
+-- the run is plain
+plain_slice : (bytes : List ℕ) (from to : ℕ) → from ≤ to → to ≤ length bytes → drop to bytes ≡ past_plain (drop from bytes) → list_all is_plain (take (to - from) (drop from bytes)) ≡ true
+plain_slice bytes from to order within e =
+    let r = plain_run (drop from bytes) in
+    let is = slice_is bytes r.run from to order within (r.parts ∙ ap (λ (xs : List ℕ). r.run ++ xs) (sym e)) in
+    ap (list_all is_plain) (sym is) ∙ r.plain
+
+pub broken-requires-clause-plain : goal.broken-requires-clause-plain
+broken-requires-clause-plain c = plain_slice c.args.bytes.now c.args.from c.args.to c.requires.order c.requires.within c.requires.run
+
+pub returns-in-Ok : goal.returns-in-Ok
+returns-in-Ok c = λ stack slot t.
+    let bytes = c.args.bytes.now in
+    let from = c.args.from in
+    let to = c.args.to in
+    let run : List ℕ = take (to - from) (drop from bytes) in
+    let plain = plain_slice bytes from to c.requires.order c.requires.within c.requires.run in
+    ap (at_text stack slot t m.between) (slice_rest bytes from to c.requires.order)
+    ∙ run_outcome stack slot t run (drop to bytes) c.in-Ok.ensures.cases.1 plain
+    ∙ ap (λ (xs : List ℕ). at_text stack slot (t ++ xs) m.between (drop to bytes)) (sym c.in-Ok.ensures.cases.0)
+
+pub returns-in-Err : goal.returns-in-Err
+returns-in-Err c = λ stack slot t.
+    let bytes = c.args.bytes.now in
+    let from = c.args.from in
+    let to = c.args.to in
+    let run : List ℕ = take (to - from) (drop from bytes) in
+    let stops : past_plain (drop to bytes) ≡ drop to bytes = ap past_plain c.requires.run ∙ plain_stops (drop from bytes) ∙ sym c.requires.run in
+    let whole = slice_rest bytes from to c.requires.order in
+    let count : length (run ++ drop to bytes) - c.broken.result ≡ length bytes - from - c.broken.result = ap (λ (n : ℕ). n - c.broken.result) (ap length (sym whole) ∙ length-drop from bytes) in
+    ap (at_text stack slot t m.between) whole ∙ c.broken.ensures.1 (drop to bytes) stops stack slot t ∙ ap bad count

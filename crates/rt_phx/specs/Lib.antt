@@ -1,0 +1,4 @@
+pub mod Asks
+pub mod Frame
+pub mod Joins
+pub mod Says

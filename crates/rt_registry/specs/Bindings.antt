@@ -1,0 +1,144 @@
+-- What bindings mean for a role, or the first reason against them.
+use Rattle.std.specs.Prelude.{ℕ, ◌==◌, ◌+◌, nat_lt, Bool, true, false, not, if◌then◌else◌, List, [], ◌∷◌, map, length, codes, Option, Some, None, option_map, unwrap_or, Result, Ok, Err}
+use Rattle.std.specs.List.{list_any, enumerate_from}
+use Rattle.std.specs.Str.{bytes_eq}
+use Rattle.rt_value.specs.declared.claims.Claims.{Claims}
+use Rattle.rt_value.specs.Choice.{◌>>=◌, some_if, first_case}
+use Rattle.rt_filter.specs.declared.filter.Shown.{Shown}
+use Rattle.rt_filter.specs.declared.filter.Test.{Test}
+use Rattle.rt_filter.specs.declared.fault.FilterFault.{FilterFault}
+use Rattle.rt_filter.specs.declared.fault.FilterFault.TheVariants as fault
+use Rattle.rt_filter.specs.declared.subscription.Wanted.{Wanted}
+use Rattle.rt_filter.specs.declared.subscription.Wanted.TheVariants.{All, Insert, Update, Delete}
+use Rattle.rt_filter.specs.declared.subscription.Subscription.{Subscription}
+use Rattle.rt_filter.specs.Written.{filter_of}
+use Rattle.rt_filter.specs.Tests.{test_of}
+use Rattle.rt_catalog.specs.declared.catalog.Catalog.{Catalog}
+use Rattle.rt_catalog.specs.Access.{may_select, table_at, table_named, role_named}
+use Rattle.rt_registry.specs.declared.binding.Binding.{Binding}
+use Rattle.rt_registry.specs.declared.binding.Subscribed.{Subscribed}
+use Rattle.rt_registry.specs.declared.fault.BindingWhy.{BindingWhy}
+use Rattle.rt_registry.specs.declared.fault.BindingWhy.TheVariants as why
+use Rattle.rt_registry.specs.declared.fault.RegistryFault.{RegistryFault}
+use Rattle.rt_registry.specs.declared.fault.RegistryFault.TheVariants.{UnknownRole, Limit, BadBinding}
+
+infixl 10 ◌>>◌
+abbrev pub ◌>>◌ : {A B E : Type 0} → Result A E → (A → Result B E) → Result B E
+(Ok x) >> f = f x
+(Err e) >> f = Err e
+
+abbrev pub or_err : {A E : Type 0} → E → Option A → Result A E
+or_err e None = Err e
+or_err e (Some x) = Ok x
+
+abbrev pub demand : {E : Type 0} → Bool → E → Result Bool E
+demand true e = Ok true
+demand false e = Err e
+
+-- `*`, `INSERT`, `UPDATE` or `DELETE`
+abbrev pub wanted_of : List ℕ → Option Wanted
+wanted_of text =
+    first_case (
+    (bytes_eq text (codes "*"), Some All)
+    ∷ (bytes_eq text (codes "INSERT"), Some Insert)
+    ∷ (bytes_eq text (codes "UPDATE"), Some Update)
+    ∷ (bytes_eq text (codes "DELETE"), Some Delete)
+    ∷ []) None
+
+-- nothing, where the text is that one
+abbrev pub unless_text : List ℕ → Option (List ℕ) → Option (List ℕ)
+unless_text none text = text >>= λ t. some_if (not (bytes_eq t none)) t
+
+abbrev pub has_schema : Catalog → List ℕ → Bool
+has_schema c schema = list_any (λ t. bytes_eq t.schema schema) c.tables
+
+-- a table, or every table of the schema, which must have one
+abbrev pub table_for : Catalog → List ℕ → Option (List ℕ) → Result (Option ℕ) BindingWhy
+table_for c schema None = demand (has_schema c schema) why.Table >> λ _. Ok None
+table_for c schema (Some name) = or_err why.Table (table_named c schema name) >> λ n. Ok (Some n)
+
+-- the table's columns as a role sees them
+abbrev pub shown_to : Catalog → ℕ → ℕ → List Shown
+shown_to c role table =
+    map (λ n. record { name = n.1.name; kind = n.1.kind; selectable = may_select c role table n.0 }) (enumerate_from 0 (table_at c table).columns)
+
+abbrev pub why_of : FilterFault → BindingWhy
+why_of fault.ColumnHidden = why.Column
+why_of fault.Opaque = why.Opaque
+why_of (fault.TooMany n) = why.TooMany
+why_of fault.BadValue = why.Value
+why_of fault.BadFilter = why.Filter
+why_of fault.NoMemory = why.Filter
+
+abbrev pub test_or_why : Result Test FilterFault → Result (Option Test) BindingWhy
+test_or_why (Ok t) = Ok (Some t)
+test_or_why (Err e) = Err (why_of e)
+
+abbrev pub test_for : Catalog → ℕ → Option ℕ → Option (List ℕ) → Result (Option Test) BindingWhy
+test_for c role table None = Ok None
+test_for c role None (Some text) = Err why.FilterNoTable
+test_for c role (Some table) (Some text) = or_err why.Filter (filter_of text) >> λ f. test_or_why (test_of f (shown_to c role table))
+
+-- What a binding means for a role, or the first reason against it. An absent table and `*` are every table of the schema, an absent filter and
+-- the empty text none.
+abbrev pub meaning_of_binding : Catalog → ℕ → Binding → Result Subscribed BindingWhy
+meaning_of_binding c role b =
+    or_err why.Event (wanted_of b.wanted) >> λ wanted.
+    table_for c b.schema (unless_text (codes "*") b.table) >> λ table.
+    test_for c role table (unless_text [] b.filter) >> λ test.
+    Ok (record { binding = b; wanted = wanted; table = table; test = test })
+
+abbrev pub at_count : {A : Type 0} → ℕ → Result A BindingWhy → Result A RegistryFault
+at_count n (Ok x) = Ok x
+at_count n (Err reason) = Err (BadBinding n reason)
+
+-- all of them, or the first bad one, counted from a number on
+abbrev pub all_from : Catalog → ℕ → ℕ → List Binding → Result (List Subscribed) RegistryFault
+all_from c role n [] = Ok []
+all_from c role n (b ∷ more) = at_count n (meaning_of_binding c role b) >> λ s. all_from c role (n + 1) more >> λ ss. Ok (s ∷ ss)
+
+-- the most bindings of a join
+abbrev pub binding_limit : ℕ
+binding_limit = 100
+
+abbrev pub within_limit : List Binding → Result Bool RegistryFault
+within_limit bindings = demand (not (nat_lt binding_limit (length bindings))) (Limit (length bindings))
+
+abbrev pub role_for : Catalog → Claims → Result ℕ RegistryFault
+role_for c claims = or_err UnknownRole (role_named c claims.role)
+
+-- what a channel's bindings mean under claims, or the first reason against them: the role, their number, the first bad one
+unfoldable pub bindings_for : Catalog → Claims → List Binding → Result (List Subscribed) RegistryFault
+bindings_for c claims bindings =
+    role_for c claims >> λ role.
+    within_limit bindings >> λ _.
+    all_from c role 1 bindings
+
+-- a subscription of a channel: the id, and its place among the channel's bindings gives the rest
+abbrev pub subscription_of : ℕ → ℕ → ℕ → Claims → ℕ × Subscribed → Subscription
+subscription_of channel slot role claims b =
+    record {
+      id = b.0;
+      channel = channel;
+      slot = slot;
+      wanted = b.1.wanted;
+      schema = b.1.binding.schema;
+      table = b.1.table;
+      test = b.1.test;
+      role = role;
+      claims = claims;
+    }
+
+-- whether a subscription is of a table: it names it, or every table of its schema
+abbrev pub is_of_table : Catalog → ℕ → Subscription → Bool
+is_of_table c table s = unwrap_or (option_map (λ t. t == table) s.table) (bytes_eq s.schema (table_at c table).schema)
+
+abbrev pub why_text : BindingWhy → List ℕ
+why_text why.Event = codes "event"
+why_text why.Table = codes "unknown table"
+why_text why.FilterNoTable = codes "filter without table"
+why_text why.Filter = codes "bad filter"
+why_text why.Column = codes "column"
+why_text why.Opaque = codes "opaque column"
+why_text why.TooMany = codes "too many values"
+why_text why.Value = codes "bad value"

@@ -1,0 +1,10 @@
+//! Bindings of channels, and the subscriptions that they are (the Realtime protocol, "Postgres Changes").
+#![tactic(auto)]
+
+mod binding;
+mod fault;
+mod subscriptions;
+
+pub use binding::{Binding, Subscribed};
+pub use fault::{BindingWhy, RegistryFault};
+pub use subscriptions::Subscriptions;
