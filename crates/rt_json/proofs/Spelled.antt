@@ -1,8 +1,10 @@
 -- The spelling of lists and objects, by their elements.
+use Rattle.std.specs.Prelude.{Result, OnOk}
 use Rattle.std.proofs.Common.{◌≡◌, ℕ, zero, suc, ◌+◌, ◌<◌, ◌≤◌, List, [], ◌∷◌, ◌++◌, refl, ap, sym, ◌∙◌, subst, length, drop, get_or, append_assoc, append-nil, add-one, arith}
 use Rattle.std.proofs.lemmas.List.{drop_more, drop_all}
 use Rattle.rt_json.specs.Written.{written, written_member, items_written, more_items_written, members_written, more_members_written, listed, more_listed, comma_before}
 use Rattle.rt_json.specs.declared.tree.Json.{Json, Row_of-Json, end_of-Json, more_of-Json, items-the_row-Json, items_hidden-the_row-Json-0, Row_of-Member, end_of-Member, more_of-Member, items-the_row-Member, items_hidden-the_row-Member-1}
+use Rattle.rt_json.specs.declared.tree.Json.TheBlock.{hidden-the_row-Json-0, hidden-the_row-Member-1}
 use Rattle.rt_json.specs.declared.tree.Json.TheVariants as j
 use Rattle.rt_json.specs.declared.tree.named.Member.{Member}
 
@@ -23,10 +25,10 @@ members end_of-Member = refl
 members (more_of-Member name value rest) = ap (λ (xs : List ℕ). written_member (record { name = name; value = value }) ++ xs) (more_members rest)
 
 pub list_written : (xs : List Json) → written (j.List xs) ≡ 91 ∷ listed written xs ++ 93 ∷ []
-list_written xs = ap (λ (ys : List ℕ). 91 ∷ ys ++ 93 ∷ []) (items _ ∙ ap (listed written) (items_hidden-the_row-Json-0 xs))
+list_written xs = ap (λ (ys : List ℕ). 91 ∷ ys ++ 93 ∷ []) (items (hidden-the_row-Json-0 xs) ∙ ap (listed written) (items_hidden-the_row-Json-0 xs))
 
 pub object_written : (xs : List Member) → written (j.Object xs) ≡ 123 ∷ listed written_member xs ++ 125 ∷ []
-object_written xs = ap (λ (ys : List ℕ). 123 ∷ ys ++ 125 ∷ []) (members _ ∙ ap (listed written_member) (items_hidden-the_row-Member-1 xs))
+object_written xs = ap (λ (ys : List ℕ). 123 ∷ ys ++ 125 ∷ []) (members (hidden-the_row-Member-1 xs) ∙ ap (listed written_member) (items_hidden-the_row-Member-1 xs))
 
 -- what is left to write from an element on
 abbrev pub left_listed : {X : Type 0} → (X → List ℕ) → ℕ → List X → List ℕ
@@ -59,3 +61,18 @@ listed_step f xs i x o1 o2 o3 whole lt is h e2 e3 =
 -- all are written
 pub listed_end : {X : Type 0} (f : X → List ℕ) (xs : List X) (i : ℕ) (o whole : List ℕ) → length xs ≤ i → o ++ left_listed f i (drop i xs) ≡ whole → o ≡ whole
 listed_end f xs i o whole ge h = sym (append-nil o) ∙ ap (λ (ys : List ℕ). o ++ ys) (sym (ap (left_listed f i) (drop_all i xs ge) ∙ left_nil f i)) ∙ h
+
+-- what is written of a list or an object is what is written of the tree
+pub list_out : {X E : Type 0} (r : Result X E) (new old : List ℕ) (tree : Json) (xs ys : List Json) → tree ≡ j.List xs → ys ≡ xs
+    → OnOk r (new ≡ (old ++ 91 ∷ listed written ys) ++ 93 ∷ []) → OnOk r (new ≡ old ++ written tree)
+list_out r new old tree xs ys e f h =
+    subst (λ (zs : List ℕ). OnOk r (new ≡ zs))
+    (append_assoc old (91 ∷ listed written ys) (93 ∷ []) ∙ ap (λ (zs : List Json). old ++ (91 ∷ listed written zs ++ 93 ∷ [])) f ∙ ap (λ (zs : List ℕ). old ++ zs) (sym (list_written xs))
+    ∙ ap (λ (t : Json). old ++ written t) (sym e)) h
+
+pub object_out : {X E : Type 0} (r : Result X E) (new old : List ℕ) (tree : Json) (xs ys : List Member) → tree ≡ j.Object xs → ys ≡ xs
+    → OnOk r (new ≡ (old ++ 123 ∷ listed written_member ys) ++ 125 ∷ []) → OnOk r (new ≡ old ++ written tree)
+object_out r new old tree xs ys e f h =
+    subst (λ (zs : List ℕ). OnOk r (new ≡ zs))
+    (append_assoc old (123 ∷ listed written_member ys) (125 ∷ []) ∙ ap (λ (zs : List Member). old ++ (123 ∷ listed written_member zs ++ 125 ∷ [])) f
+    ∙ ap (λ (zs : List ℕ). old ++ zs) (sym (object_written xs)) ∙ ap (λ (t : Json). old ++ written t) (sym e)) h

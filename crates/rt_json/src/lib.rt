@@ -11,6 +11,8 @@ mod scan;
 mod stack;
 mod state;
 mod stop;
+#[cfg(test)]
+mod tests;
 mod text;
 mod tree;
 mod writing;
@@ -20,4 +22,4 @@ pub use lookup::member;
 pub use reading::{one_fault, one_tree, read};
 pub use tree::Json;
 pub use tree::named::Member;
-pub use writing::write;
+pub use writing::{write, written_again};

@@ -1,5 +1,8 @@
 ghost use Rattle.std.specs.Prelude.{◌≡◌, ◌++◌, ◌∷◌, [], ◌<◌, flat_map, OnOk, IfOk};
 ghost use Rattle.rt_json.specs.Written.{written, written_member, listed, quoted, written_byte, hex_digit, comma_before};
+ghost use Rattle.rt_json.specs.Fits.{FitsWithin};
+ghost use Rattle.rt_json.specs.Grammar.{IsJson, max_levels};
+ghost use Rattle.rt_json.specs.declared.tree.Json.{Json};
 
 use crate::tree::Json;
 use crate::tree::named::Member;
@@ -118,4 +121,11 @@ pub fn write(alloc: Global, tree: &Json) -> Result<Bytes, AllocError>
     let mut out = Vec::new(alloc);
     write_value(&mut out, tree)?;
     Ok(Bytes::new(out))
+}
+
+/// What is written is read again as the same tree, where its lists and objects nest in at most 64 levels, its numbers
+/// are numbers of the grammar and its texts are UTF-8.
+pub fn written_again()
+    ensures { (tree : Json) → FitsWithin max_levels tree → IsJson (written tree) tree }
+{
 }
