@@ -7,9 +7,11 @@ use crate::tree::named::Member;
 fn last_named<'a>(members: &'a [Member], name: &str) -> Option<&'a Json>
     ensures { MatchOption result (last_named name.now members.now ≡ None) (λ tree. last_named name.now members.now ≡ Some tree.now) }
 {
-    for member in members.iter().rev() {
-        if member.name.get() == name {
-            return Some(&member.value);
+    let mut at = members.len();
+    while at > 0 {
+        at -= 1;
+        if members[at].name.get() == name {
+            return Some(&members[at].value);
         }
     }
     None
