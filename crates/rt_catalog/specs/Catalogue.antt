@@ -17,7 +17,7 @@ use Rattle.rt_catalog.specs.declared.fault.Why.{Why}
 use Rattle.rt_catalog.specs.declared.fault.Why.TheVariants as why
 use Rattle.rt_catalog.specs.declared.fault.CatalogFault.{CatalogFault}
 use Rattle.rt_catalog.specs.declared.fault.CatalogFault.TheVariants.{NoMemory, Refused}
-use Rattle.rt_catalog.specs.Grammar.{Placed, Written}
+use Rattle.rt_catalog.specs.Grammar.{Placed, Written, MayGoOn}
 use Rattle.rt_catalog.specs.Lists.{Lists, TablePolicy}
 use Rattle.rt_catalog.specs.Refusals.{lists_of, reaches}
 
@@ -69,10 +69,10 @@ pub data Breaks (text : List ℕ) : ℕ → Type 0 where
   no_token : {at : ℕ} → IsUncut text at → Breaks text at
   -- this token can't go on
   no_statement : {at n to : ℕ} {tokens : List Token}
-      → Leads text 0 tokens to → n < length tokens → IsStuckAt Written (lexemes text tokens) n → at ≡ place_of text tokens n → Breaks text at
+      → Leads text 0 tokens to → n < length tokens → IsStuckAt MayGoOn (lexemes text tokens) n → at ≡ place_of text tokens n → Breaks text at
   -- the end can't follow
   unfinished : {at : ℕ} {tokens : List Token}
-      → IsCut text tokens → IsStuckAt Written (lexemes text tokens) (length tokens)
+      → IsCut text tokens → IsStuckAt MayGoOn (lexemes text tokens) (length tokens)
       → ((file : List Placed) → Written file (lexemes text tokens) → ⊥) → at ≡ length text → Breaks text at
 
 -- the least byte where something does

@@ -137,12 +137,10 @@ pub data IsStatement : Statement → List Lexeme → List Lexeme → Type 0 wher
       → Keywords (codes "alter" ∷ codes "table" ∷ []) xs ys → IsQName q ys zs
       → Keywords (codes "enable" ∷ codes "row" ∷ codes "level" ∷ codes "security" ∷ []) zs us
       → IsStatement (statement.Secure q) xs us
-  -- a policy for ALL or SELECT needs `using`
   policy : {p : PolicyText} {x : Lexeme} {xs ys zs us vs ws ts rs ss : List Lexeme}
       → Keywords (codes "create" ∷ codes "policy" ∷ []) xs (x ∷ ys) → IsName p.name x → Keywords (codes "on" ∷ []) ys zs → IsQName p.table zs us
       → Stance p.restrictive us vs → For p.command vs ws → To p.roles ws ts
       → Condition (codes "using" ∷ []) p.using ts rs → Condition (codes "with" ∷ codes "check" ∷ []) p.check rs ss
-      → (not (selects p.command) || is_some p.using) ≡ true
       → IsStatement (statement.Policy p) xs ss
 
 -- a statement, and the number of its first token
@@ -150,14 +148,33 @@ pub record Placed : Type 0 where
   pub at : ℕ
   pub statement : Statement
 
+-- a policy for ALL or SELECT needs USING; without it the `;` can't go on
+abbrev pub may_end : Statement → Bool
+may_end (statement.Policy p) = not (selects p.command) || is_some p.using
+may_end _ = true
+
+abbrev pub placed : ℕ → List Lexeme → Statement → Placed
+placed count xs s = record { at = count - length xs; statement = s }
+
 -- file = { statement ";" }, with the statements before; `count` is the number of all tokens
 pub data Statements (count : ℕ) : List Placed → List Placed → List Lexeme → Type 0 where
   file_end : {all : List Placed} → Statements count all all []
   file_more : {before all : List Placed} {s : Statement} {semicolon : Lexeme} {xs ys : List Lexeme}
-      → IsStatement s xs (semicolon ∷ ys) → IsSign (codes ";") semicolon
-      → Statements count (before ++ record { at = count - length xs; statement = s } ∷ []) all ys
-      → Statements count before all xs
+    → IsStatement s xs (semicolon ∷ ys) → may_end s ≡ true → IsSign (codes ";") semicolon
+    → Statements count (before ++ placed count xs s ∷ []) all ys → Statements count before all xs
 
 -- the tokens are the file
 abbrev pub Written : List Placed → List Lexeme → Type 0
 Written file xs = Statements (length xs) [] file xs
+
+-- a file, and perhaps a statement behind it whose `;` hasn't come
+pub data Begun (count : ℕ) : List Placed → List Placed → List Lexeme → Type 0 where
+  begun_end : {all : List Placed} → Begun count all all []
+  begun_last : {before : List Placed} {s : Statement} {xs : List Lexeme} → IsStatement s xs [] → Begun count before (before ++ placed count xs s ∷ []) xs
+  begun_more : {before all : List Placed} {s : Statement} {semicolon : Lexeme} {xs ys : List Lexeme}
+    → IsStatement s xs (semicolon ∷ ys) → may_end s ≡ true → IsSign (codes ";") semicolon
+    → Begun count (before ++ placed count xs s ∷ []) all ys → Begun count before all xs
+
+-- what the tokens that can go on are a front of
+abbrev pub MayGoOn : List Placed → List Lexeme → Type 0
+MayGoOn file xs = Begun (length xs) [] file xs

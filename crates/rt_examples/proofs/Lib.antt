@@ -1,6 +1,11 @@
 mod CutsComputed
+mod DeletesComputed
 mod ExpiryComputed
+mod IdentitiesComputed
 mod NotesComputed
 mod OwnersComputed
+mod Polls
 mod RenewalComputed
+mod RestrictiveComputed
+mod RoomsComputed
 mod TracksComputed

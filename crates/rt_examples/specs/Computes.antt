@@ -1,4 +1,5 @@
--- All that the examples compute with: `unfolding computes` opens it.
+-- All that the examples compute with: `unfolding computes` opens it. A verdict that a policy decides is taken apart by hand, so `but_verdicts` leaves
+-- verdicts shut.
 use Rattle.std.specs.Fmt.{digits}
 use Rattle.sha2.specs.Sha256.{sha256, compress, rounds, schedule, first_words, hash_after, digest_bytes}
 use Rattle.base64.specs.GeneralPurpose.{decoded_of}
@@ -22,8 +23,12 @@ use Rattle.rt_entry.specs.Doings.{subscriptions, poll_parts, doings, story}
 use Rattle.rt_entry.specs.Answers.{told, answers_by, all_answers, answers_of_marks, marks_of, lane_marks}
 use Rattle.rt_entry.specs.Machine.{shown, pending, step_of, run}
 
+unfoldable pub but_verdicts : Unit {0}
+unfolding json_computes digits tables_after message_of config_of filter_of test_of bindings_for shape_of joined departed members_at claims_at ids_given all_tracks present_at edits_at every_slot now_of channel_of_join renewal_of subscriptions poll_parts doings story told answers_by all_answers answers_of_marks marks_of lane_marks shown pending step_of run
+but_verdicts = tt
+
 unfoldable pub computes : Unit {0}
-unfolding json_computes digits tables_after message_of config_of filter_of test_of bindings_for verdict_of shape_of joined departed members_at claims_at ids_given all_tracks present_at edits_at every_slot now_of channel_of_join renewal_of subscriptions poll_parts doings story told answers_by all_answers answers_of_marks marks_of lane_marks shown pending step_of run
+unfolding but_verdicts verdict_of
 computes = tt
 
 -- what a token is computed with

@@ -21,7 +21,7 @@ module _ (A : Type 0) (step : Judge-F A → A) where
   fold_uid = ap (fold-Judge A step) (sym judge.rolls-Uid) ∙ fold-roll-Judge A step Judge-F.Uid
 
   pub fold_compare : (op : Comparison) (a b : Judge)
-    → fold-Judge A step (judge.Compare op a b) ≡ step (Judge-F.Compare op (fold-Judge A step a) (fold-Judge A step b))
+      → fold-Judge A step (judge.Compare op a b) ≡ step (Judge-F.Compare op (fold-Judge A step a) (fold-Judge A step b))
   fold_compare op a b = ap (fold-Judge A step) (sym (judge.rolls-Compare op a b)) ∙ fold-roll-Judge A step (Judge-F.Compare op a b)
 
   pub fold_exists : (t : ℕ) (c : Judge) → fold-Judge A step (judge.Exists t c) ≡ step (Judge-F.Exists t (fold-Judge A step c))

@@ -1,9 +1,13 @@
 pub mod Computes
 pub mod Cuts
+pub mod Deletes
 pub mod Expiry
 pub mod Folds
+pub mod Identities
 pub mod Notes
 pub mod Owners
 pub mod Policies
 pub mod Renewal
+pub mod Restrictive
+pub mod Rooms
 pub mod Tracks

@@ -26,7 +26,8 @@ abbrev pub notes : Catalog
 notes =
     record {
       tables = record {
-        schema = codes "public"; name = codes "notes";
+        schema = codes "public";
+        name = codes "notes";
         columns = record { name = codes "id"; kind = kind.Int4; shown = codes "int4" } ∷ record { name = codes "body"; kind = kind.Text; shown = codes "text" } ∷ [];
         key = 0 ∷ [];
       } ∷ [];

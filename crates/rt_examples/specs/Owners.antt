@@ -34,7 +34,8 @@ abbrev pub docs : Catalog
 docs =
     record {
       tables = record {
-        schema = codes "public"; name = codes "docs";
+        schema = codes "public";
+        name = codes "docs";
         columns = record { name = codes "id"; kind = kind.Int4; shown = codes "int4" } ∷ record { name = codes "owner"; kind = kind.Uuid; shown = codes "uuid" } ∷ [];
         key = 0 ∷ [];
       } ∷ [];
@@ -53,9 +54,15 @@ one = record { values = value.Int (pos 1) ∷ [] }
 abbrev pub owned_by : Verb → Option Key → ℕ → Change
 owned_by verb old owner =
     record {
-      table = 0; verb = verb; has_key = true; size = 300; moment = None;
-      new = Some (value.Int (pos 1)) ∷ Some (value.Uuid owner) ∷ []; old = None ∷ None ∷ [];
-      new_trees = []; old_trees = [];
+      table = 0;
+      verb = verb;
+      has_key = true;
+      size = 300;
+      moment = None;
+      new = Some (value.Int (pos 1)) ∷ Some (value.Uuid owner) ∷ [];
+      old = None ∷ None ∷ [];
+      new_trees = [];
+      old_trees = [];
       edit = Put old one (Some (value.Int (pos 1)) ∷ Some (value.Uuid owner) ∷ []);
     }
 

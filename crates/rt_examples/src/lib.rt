@@ -1,8 +1,12 @@
 //! Worked examples: what the definitions say of small runs, each computed by the prover.
 #![tactic(auto)]
 
+ghost use Rattle.rt_examples.specs.Deletes.{DeletesShowTheKey};
+ghost use Rattle.rt_examples.specs.Restrictive.{RestrictiveRefuses};
+ghost use Rattle.rt_examples.specs.Rooms.{MembersSeeRooms};
 ghost use Rattle.rt_examples.specs.Cuts.{CutIsGiven, CutIsShown};
 ghost use Rattle.rt_examples.specs.Expiry.{ChannelExpires};
+ghost use Rattle.rt_examples.specs.Identities.{IdentityIsBound, NoIdentityIsBound, IdentityIsShown, RowIsKept};
 ghost use Rattle.rt_examples.specs.Notes.{FirstRun};
 ghost use Rattle.rt_examples.specs.Owners.{OwnersAreJudged};
 ghost use Rattle.rt_examples.specs.Renewal.{TokenIsSigned, RenewalIsFollowed};
@@ -11,38 +15,55 @@ ghost use Rattle.rt_examples.specs.Tracks.{LeaverGets, WatcherGets};
 /// One insert, from a join to the printed change: whole output of the slot that joined.
 pub fn first_run()
     ensures { FirstRun }
-{
-}
+{}
 
 /// Tracks of a slot, a second track, and its departure, as both slots of the topic get them.
 pub fn tracks()
     ensures leaver { LeaverGets }
     ensures watcher { WatcherGets }
-{
-}
+{}
 
 /// A full outbox cuts its slot, and a later opening is given as usual.
 pub fn cut()
     ensures given { CutIsGiven }
     ensures shown { CutIsShown }
-{
-}
+{}
 
 /// Claims run out at a tick, and an opening that isn't heard for a minute ends.
 pub fn expiry()
     ensures { ChannelExpires }
-{
-}
+{}
 
 /// A signed token renews the claims of a channel between two polls.
 pub fn renewal()
     ensures signed { TokenIsSigned }
     ensures followed { RenewalIsFollowed }
-{
-}
+{}
 
 /// Two changes of one row in a poll are judged on the row as the poll leaves it.
 pub fn owners()
     ensures { OwnersAreJudged }
-{
-}
+{}
+
+/// A delete under row security shows the key columns alone.
+pub fn deletes()
+    ensures { DeletesShowTheKey }
+{}
+
+/// A restrictive policy that isn't true refuses a row that a permissive one shows.
+pub fn restrictive()
+    ensures { RestrictiveRefuses }
+{}
+
+/// A policy reads another table as the same caller sees it.
+pub fn rooms()
+    ensures { MembersSeeRooms }
+{}
+
+/// An update shows a column that only its identity gives, and is judged on the row as the table keeps it.
+pub fn identities()
+    ensures bound { IdentityIsBound }
+    ensures bound_alone { NoIdentityIsBound }
+    ensures shown { IdentityIsShown }
+    ensures kept { RowIsKept }
+{}

@@ -1,3 +1,4 @@
 pub mod Commands
+pub mod Generate
 pub mod Reading
 pub mod Running

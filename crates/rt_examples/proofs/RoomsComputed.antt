@@ -1,0 +1,163 @@
+-- Computed but for what the policies are of the rows, which goes by their folds.
+use Rattle.std.proofs.Common.{◌≡◌, ℕ, List, [], ◌∷◌, ◌++◌, ◌||◌, ◌&&◌, not, true, false, refl, ap, ap₂, ◌∙◌, Bool}
+use Rattle.std.specs.Prelude.{if◌then◌else◌, codes, None}
+use Rattle.std.specs.List.{flat_map}
+use Rattle.rt_value.specs.declared.value.Value.TheVariants as value
+use Rattle.rt_value.specs.declared.row.Row.{Row}
+use Rattle.rt_value.specs.Tables.{rows_of_table}
+use Rattle.rt_policy.specs.declared.caller.Seen.{Seen}
+use Rattle.rt_policy.specs.declared.caller.Seen.TheVariants.{Yes, NoPolicy, NonePermits}
+use Rattle.rt_policy.specs.Worth.{Who, View, truth}
+use Rattle.rt_policy.specs.Truth.{is_true, truth_in}
+use Rattle.rt_policy.specs.Visibility.{visibility, view_by, visibility_within, is_yes}
+use Rattle.rt_change.specs.Verdicts.{verdict_of_seen}
+use Rattle.rt_entry.specs.Audit.{Judged, audit, audit_line, audit_lines, judged_poll, judged_input}
+use Rattle.rt_entry.specs.declared.input.Input.{Input}
+use Rattle.rt_entry.specs.declared.input.Input.TheVariants.{Poll}
+use Rattle.rt_entry.specs.declared.story.Member.{Member}
+use Rattle.rt_entry.specs.Doings.{story, subscriptions}
+use Rattle.rt_entry.specs.Story.{now_of, tables_left}
+use Rattle.rt_examples.proofs.Polls.{members_after_poll}
+use Rattle.rt_examples.specs.Computes.{computes}
+use Rattle.rt_examples.specs.Notes.{settings}
+use Rattle.rt_examples.specs.Policies.{own, is_shared, own_is, is_shared_is, owns, joins}
+use Rattle.rt_examples.specs.Rooms.{MembersSeeRooms, rooms, room_rules, room_key, member_key, user, of_role, joined, made, left, gone}
+
+abbrev who : ℕ → Who
+who n = record { role = 1; bypass = false; claims = user n }
+
+abbrev room : List ℕ → Row
+room title = record { key = room_key; values = value.Uuid 17 ∷ value.Text title ∷ [] }
+
+abbrev member : Row
+member = record { key = member_key; values = value.Uuid 17 ∷ value.Uuid 161 ∷ [] }
+
+-- the tables with the room, and the members' rows
+abbrev rows : List ℕ → List Row → ℕ → List Row
+rows title members = rows_of_table ((room title ∷ []) ∷ members ∷ [])
+
+abbrev seen_if : Bool → Seen
+seen_if b = if not (b || false) then NonePermits else Yes
+
+view : ℕ → ℕ → (ℕ → List Row) → View
+view fuel n tables = view_by tables (visibility_within fuel room_rules (who n) tables)
+
+-- a caller sees its own memberships
+seen_member : (n : ℕ) (tables : ℕ → List Row) → visibility_within 1 room_rules (who n) tables 1 member ≡ seen_if (owns (who n) member)
+unfolding view
+seen_member n tables = ap seen_if (own_is (who n) (view 0 n tables) member)
+
+seen_room : (n : ℕ) (title : List ℕ) (members : List Row)
+    → visibility room_rules (who n) (rows title members) 0 (room title) ≡ seen_if (is_true (truth (who n) (view 1 n (rows title members)) is_shared (room title)))
+unfolding visibility view
+seen_room n title members = refl
+
+-- with its member's row, the room is seen where that row is
+with_member : (n : ℕ) → visibility room_rules (who n) (rows (codes "Lobby") (member ∷ [])) 0 (room (codes "Lobby")) ≡ seen_if (is_yes (seen_if (owns (who n) member)))
+unfolding view
+with_member n =
+    let tables = rows (codes "Lobby") (member ∷ []) in
+    seen_room n (codes "Lobby") (member ∷ [])
+    ∙ ap seen_if (is_shared_is (who n) (view 1 n tables) (room (codes "Lobby")))
+    ∙ ap (λ s. seen_if (is_true (truth_in (value.Bool ((is_yes s && true) || false))))) (seen_member n tables)
+    ∙ settled (owns (who n) member)
+  where
+    settled : (b : Bool) → seen_if (is_true (truth_in (value.Bool ((is_yes (seen_if b) && true) || false)))) ≡ seen_if (is_yes (seen_if b))
+    settled true = refl
+    settled false = refl
+
+-- without it nobody sees it by the policy
+without_member : (n : ℕ) → visibility room_rules (who n) (rows (codes "Hall") []) 0 (room (codes "Hall")) ≡ NonePermits
+unfolding view
+without_member n =
+    seen_room n (codes "Hall") [] ∙ ap seen_if (is_shared_is (who n) (view 1 n (rows (codes "Hall") [])) (room (codes "Hall")))
+
+abbrev judged : ℕ → ℕ → ℕ → Seen → Judged
+judged poll place sub s = record { poll = poll; place = place; table = 0; subscription = sub; verdict = verdict_of_seen s }
+
+abbrev service : Who
+service = record { role = 2; bypass = true; claims = of_role (codes "service_role") }
+
+abbrev anon : Who
+anon = record { role = 0; bypass = false; claims = of_role (codes "anon") }
+
+abbrev seen_of : List ℕ → List Row → Seen × Seen × Seen × Seen
+seen_of title members = (
+  visibility room_rules (who 161) (rows title members) 0 (room title),
+  visibility room_rules (who 162) (rows title members) 0 (room title),
+  visibility room_rules service (rows title members) 0 (room title),
+  visibility room_rules anon (rows title members) 0 (room title),
+)
+
+-- the service role and anon need no policy's truth
+service_sees : (tables : ℕ → List Row) (row : Row) → visibility room_rules service tables 0 row ≡ Yes
+unfolding visibility
+service_sees tables row = refl
+
+anon_has_no_policy : (tables : ℕ → List Row) (row : Row) → visibility room_rules anon tables 0 row ≡ NoPolicy
+unfolding visibility
+anon_has_no_policy tables row = refl
+
+seen_in_lobby : seen_of (codes "Lobby") (member ∷ []) ≡ (Yes, NonePermits, Yes, NoPolicy)
+seen_in_lobby =
+    λ i. (with_member 161 i, with_member 162 i, service_sees (rows (codes "Lobby") (member ∷ [])) (room (codes "Lobby")) i, anon_has_no_policy (rows (codes "Lobby") (member ∷ [])) (room (codes "Lobby")) i)
+
+seen_in_hall : seen_of (codes "Hall") [] ≡ (NonePermits, NonePermits, Yes, NoPolicy)
+seen_in_hall =
+    λ i. (without_member 161 i, without_member 162 i, service_sees (rows (codes "Hall") []) (room (codes "Hall")) i, anon_has_no_policy (rows (codes "Hall") []) (room (codes "Hall")) i)
+
+abbrev first_poll : Seen × Seen × Seen × Seen → List Judged
+first_poll p = judged 8 1 1 p.0 ∷ judged 8 1 2 p.1 ∷ judged 8 1 3 p.2 ∷ judged 8 1 4 p.3 ∷ []
+
+abbrev second_poll : Seen × Seen × Seen × Seen → List Judged
+second_poll q = judged 9 1 1 q.0 ∷ judged 9 1 2 q.1 ∷ judged 9 1 3 q.2 ∷ judged 9 1 4 q.3 ∷ []
+
+abbrev third_poll : List Judged
+third_poll = judged 10 0 1 Yes ∷ judged 10 0 2 Yes ∷ judged 10 0 3 Yes ∷ judged 10 0 4 Yes ∷ []
+
+first_judged : judged_input rooms settings joined (Poll made) ≡ first_poll (seen_of (codes "Lobby") (member ∷ []))
+unfolding computes judged_poll
+first_judged = refl
+
+-- a later poll by the members that it finds
+abbrev second_by : List Member → List Judged
+second_by ms = judged_poll rooms 9 (tables_left rooms (story rooms settings (Poll made ∷ joined)) (Poll left)) (subscriptions ms) left
+
+abbrev third_by : List Member → List Judged
+third_by ms = judged_poll rooms 10 (tables_left rooms (story rooms settings (Poll left ∷ Poll made ∷ joined)) (Poll gone)) (subscriptions ms) gone
+
+abbrev members : List Input → List Member
+members journal = (now_of (story rooms settings journal)).members
+
+second_computed : second_by (members joined) ≡ second_poll (seen_of (codes "Hall") [])
+unfolding computes judged_poll
+second_computed = refl
+
+third_computed : third_by (members joined) ≡ third_poll
+unfolding computes judged_poll
+third_computed = refl
+
+second_judged : judged_input rooms settings (Poll made ∷ joined) (Poll left) ≡ second_poll (seen_of (codes "Hall") [])
+second_judged = ap second_by (members_after_poll rooms settings joined made) ∙ second_computed
+
+third_judged : judged_input rooms settings (Poll left ∷ Poll made ∷ joined) (Poll gone) ≡ third_poll
+third_judged =
+    ap third_by (members_after_poll rooms settings (Poll made ∷ joined) left) ∙ ap third_by (members_after_poll rooms settings joined made) ∙ third_computed
+
+abbrev lines : List Judged → List Judged → List Judged → List ℕ
+lines a b c = flat_map (audit_line rooms) (((audit rooms settings joined ++ a) ++ b) ++ c)
+
+in_three : audit_lines rooms settings (Poll gone ∷ Poll left ∷ Poll made ∷ joined) ≡
+    lines (judged_input rooms settings joined (Poll made)) (judged_input rooms settings (Poll made ∷ joined) (Poll left)) (judged_input rooms settings (Poll left ∷ Poll made ∷ joined) (Poll gone))
+unfolding audit
+in_three = refl
+
+pub members_see_rooms_holds : MembersSeeRooms
+unfolding computes audit
+members_see_rooms_holds =
+    in_three
+    ∙ ap (λ a. lines a (judged_input rooms settings (Poll made ∷ joined) (Poll left)) (judged_input rooms settings (Poll left ∷ Poll made ∷ joined) (Poll gone)))
+    (first_judged ∙ ap first_poll seen_in_lobby)
+    ∙ ap (λ b. lines (first_poll (Yes, NonePermits, Yes, NoPolicy)) b (judged_input rooms settings (Poll left ∷ Poll made ∷ joined) (Poll gone)))
+    (second_judged ∙ ap second_poll seen_in_hall)
+    ∙ ap (λ c. lines (first_poll (Yes, NonePermits, Yes, NoPolicy)) (second_poll (NonePermits, NonePermits, Yes, NoPolicy)) c) third_judged
