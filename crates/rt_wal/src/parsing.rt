@@ -26,18 +26,23 @@ pub fn content_of(line: &[u8]) -> &[u8]
     without_last(without_last(line, b'\n'), b'\r')
 }
 
+/// The fault of a line that is no JSON.
+fn not_json() -> WalFault
+    ensures { result ≡ WalFault.BadRecord RecordWhy.Json }
+{
+    WalFault::BadRecord {
+        why: RecordWhy::Json,
+    }
+}
+
 fn tree_of(alloc: Global, text: &[u8]) -> Result<Json, WalFault>
     ensures { MatchResult result (IsJson text.now) (IsTreeFault text.now) }
 {
     match read(alloc, text) {
         Ok(tree) => Ok(tree),
         Err(JsonFault::NoMemory) => Err(WalFault::NoMemory),
-        Err(JsonFault::Bad { .. }) => Err(WalFault::BadRecord {
-            why: RecordWhy::Json,
-        }),
-        Err(JsonFault::TooDeep { .. }) => Err(WalFault::BadRecord {
-            why: RecordWhy::Json,
-        }),
+        Err(JsonFault::Bad { .. }) => Err(not_json()),
+        Err(JsonFault::TooDeep { .. }) => Err(not_json()),
     }
 }
 
