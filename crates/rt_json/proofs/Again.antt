@@ -160,6 +160,7 @@ number_ends_here levels stack s text (b ∷ bs) out e h = by (digits_after s b) 
   where
     past : Then levels bs (m.past_value stack (j.Num text) (class_of b)) out
     past = ap (reads_on (reads (step levels) bs)) (sym (past_same levels stack (j.Num text) b)) ∙ h
+
     by : (o : Option Digits) → IfGoes b o → Then levels bs (m.number_next stack text b (may_end s) o) out
     by None g = rw e past
     by (Some digits) g = absurd (nothing out (sym (ap (reads_on (reads (step levels) bs)) (past_stuck stack (j.Num text) (class_of b) g)) ∙ past))
@@ -185,12 +186,12 @@ fills_reads : (levels : ℕ) (stack : List Frame) (slot : Slot) (text : List ℕ
     → Reads levels ys (Place stack slot (text ++ more) m.between) out → Reads levels (more ++ ys) (Place stack slot text (m.filling kind count)) out
 fills_reads levels stack slot text kind zero (b ∷ bs) ys out f h =
     let k : Reads levels (bs ++ ys) (Place stack slot (text ++ b ∷ []) m.between) out =
-        subst (λ (xs : List ℕ). Reads levels (xs ++ ys) (Place stack slot (text ++ b ∷ []) m.between) out) (sym f.1)
-        (subst (λ (xs : List ℕ). Reads levels ys (Place stack slot (text ++ b ∷ xs) m.between) out) f.1 h) in
+    subst (λ (xs : List ℕ). Reads levels (xs ++ ys) (Place stack slot (text ++ b ∷ []) m.between) out) (sym f.1)
+    (subst (λ (xs : List ℕ). Reads levels ys (Place stack slot (text ++ b ∷ xs) m.between) out) f.1 h) in
     rw f.0 k
 fills_reads levels stack slot text kind (suc count) (b ∷ bs) ys out f h =
     let k = fills_reads levels stack slot (text ++ b ∷ []) tail.Any count bs ys out f.1
-        (subst (λ (xs : List ℕ). Reads levels ys (Place stack slot xs m.between) out) (sym (append_assoc text (b ∷ []) bs)) h) in
+    (subst (λ (xs : List ℕ). Reads levels ys (Place stack slot xs m.between) out) (sym (append_assoc text (b ∷ []) bs)) h) in
     rw f.0 k
 fills_reads levels stack slot text kind zero [] ys out f h = absurd f
 fills_reads levels stack slot text kind (suc count) [] ys out f h = absurd f
@@ -213,7 +214,7 @@ plain_reads levels stack slot text ch xs out (sc, low, no34, no92) h = by (order
         let n92 : f ≡ 92 → ⊥ = λ e. omega (arith, e, fh) in
         let l32 : 32 ≤ f = omega (arith, fh) in
         let k : Reads levels xs (Place stack slot ((text ++ f ∷ []) ++ mb.more) m.between) out =
-            subst (λ (ys : List ℕ). Reads levels xs (Place stack slot ys m.between) out) (ap (λ (ys : List ℕ). text ++ ys) mb.bytes ∙ sym (append_assoc text (f ∷ []) mb.more)) h in
+        subst (λ (ys : List ℕ). Reads levels xs (Place stack slot ys m.between) out) (ap (λ (ys : List ℕ). text ++ ys) mb.bytes ∙ sym (append_assoc text (f ∷ []) mb.more)) h in
         let k2 = fills_reads levels stack slot (text ++ f ∷ []) mb.kind mb.count mb.more xs out mb.fills k in
         let k3 : Reads levels (f ∷ (mb.more ++ xs)) (Place stack slot text m.between) out = rw (ne_eqb f 34 n34, ne_eqb f 92 n92, le-ltb f 32 l32, le-ltb f 128 fh, mb.leads) k2 in
         subst (λ (ys : List ℕ). Reads levels (ys ++ xs) (Place stack slot text m.between) out) (sym mb.bytes) k3
@@ -252,6 +253,7 @@ name_read {name = name} {us = us} (t.quoted {xs = bs} rest) bl bm levels stack m
 
 mutual
   unfolding class_of
+
   started : {n : ℕ} {v : Json} {xs ys : List ℕ} → IsValue n v xs ys → (levels : ℕ) (stack : List Frame) (out : Json) → n ≡ left levels stack
       → Reads levels ys (m.completed stack v) out → Starts levels stack xs out
   started (g.null {xs = xs}) levels stack out e h = (110, 117 ∷ 108 ∷ 108 ∷ xs, refl, h)

@@ -57,10 +57,14 @@ low_ended stack slot t h u rest e = rw e refl
 -- both at once, by what the unit gives
 pub low_is : (bytes : List ℕ) (at : ℕ) (r : Result ℕ Stop) → ByteReads bytes at 92 (Ok tt) → ByteReads bytes (at + 1) 117 (Ok tt) → UnitReads bytes (at + 2) true r → PairReads bytes at r
 low_is bytes at (Ok u) a b h =
-    let fits = h.0 in let range = low_range u h.2 in
-    (omega (arith, fits), range.0, range.1, λ high stack slot t.
-        before_low bytes at high a b stack slot t ∙ h.3 (m.second_unit high) tt stack slot t ∙ low_ended stack slot t high u (drop (at + 2 + 4) bytes) h.2
-        ∙ ap (λ (n : ℕ). at_text stack slot (t ++ encode_utf8 (pair_code high u)) m.between (drop n bytes)) (omega arith))
+    let fits = h.0 in let range = low_range u h.2 in (
+      omega (arith, fits),
+      range.0,
+      range.1,
+      λ high stack slot t.
+          before_low bytes at high a b stack slot t ∙ h.3 (m.second_unit high) tt stack slot t ∙ low_ended stack slot t high u (drop (at + 2 + 4) bytes) h.2
+          ∙ ap (λ (n : ℕ). at_text stack slot (t ++ encode_utf8 (pair_code high u)) m.between (drop n bytes)) (omega arith),
+    )
 low_is bytes at (Err e) a b h = λ high stack slot t. faults_behind e _ _ (before_low bytes at high a b stack slot t) (h (m.second_unit high) tt stack slot t)
 
 -- a unit alone
@@ -77,9 +81,12 @@ char_err bytes at e h = h m.first_unit tt
 
 pub char_one : (bytes : List ℕ) (at u ch : ℕ) → UnitReads bytes at false (Ok u) → scalar u ≡ true → ch ≡ u → ReadsChar (m.unit0 m.first_unit) bytes at (Ok (ch, at + 4))
 char_one bytes at u ch h s is =
-    let fits = h.0 in
-    (omega (arith, fits), fits, λ stack slot t.
-        h.3 m.first_unit tt stack slot t ∙ first_ended stack slot t u (drop (at + 4) bytes) s ∙ ap (λ (x : ℕ). at_text stack slot (t ++ encode_utf8 x) m.between (drop (at + 4) bytes)) (sym is))
+    let fits = h.0 in (
+      omega (arith, fits),
+      fits,
+      λ stack slot t.
+          h.3 m.first_unit tt stack slot t ∙ first_ended stack slot t u (drop (at + 4) bytes) s ∙ ap (λ (x : ℕ). at_text stack slot (t ++ encode_utf8 x) m.between (drop (at + 4) bytes)) (sym is),
+    )
 
 -- a unit that is no character is a high half
 pub is_high_half : (bytes : List ℕ) (at u : ℕ) → UnitReads bytes at false (Ok u) → scalar u ≡ false → is_high u ≡ true
@@ -136,10 +143,13 @@ pub escape_end : (bytes : List ℕ) (at : ℕ) → length bytes ≤ at → Reads
 escape_end bytes at le stack slot t = text_ends bytes at stack slot t m.escape le
 
 pub escape_short : (bytes : List ℕ) (at ch : ℕ) → at < length bytes → short_escape (get_or bytes at 0) ≡ Some ch → ReadsChar m.escape bytes at (Ok (ch, at + 1))
-escape_short bytes at ch lt e =
-    (omega arith, omega (arith, lt), λ stack slot t.
-        text_goes bytes at (at + 1) stack slot t (t ++ ch ∷ []) m.escape m.between lt refl (ap (m.escaped t (get_or bytes at 0)) e)
-        ∙ ap (λ (xs : List ℕ). at_text stack slot (t ++ xs) m.between (drop (at + 1) bytes)) (sym (encode_ascii ch (short_small (get_or bytes at 0) ch e))))
+escape_short bytes at ch lt e = (
+  omega arith,
+  omega (arith, lt),
+  λ stack slot t.
+      text_goes bytes at (at + 1) stack slot t (t ++ ch ∷ []) m.escape m.between lt refl (ap (m.escaped t (get_or bytes at 0)) e)
+      ∙ ap (λ (xs : List ℕ). at_text stack slot (t ++ xs) m.between (drop (at + 1) bytes)) (sym (encode_ascii ch (short_small (get_or bytes at 0) ch e))),
+)
 
 pub escape_not : (bytes : List ℕ) (at : ℕ) → at < length bytes → short_escape (get_or bytes at 0) ≡ None → get_or bytes at 0 ≢ 117 → ReadsChar m.escape bytes at (Err (stop.Bad (length bytes - at)))
 escape_not bytes at lt e n stack slot t =
@@ -151,6 +161,7 @@ escape_unit bytes at r lt e is h = by r h
   where
     goes : InAll (λ stack slot t. at_text stack slot t m.escape (drop at bytes) ≡ at_text stack slot t (m.unit0 m.first_unit) (drop (at + 1) bytes))
     goes stack slot t = text_goes bytes at (at + 1) stack slot t t m.escape (m.unit0 m.first_unit) lt refl (ap (m.escaped t (get_or bytes at 0)) e ∙ rw (eq-eqb (get_or bytes at 0) 117 is) refl)
+
     by : (r : Result (ℕ × ℕ) Stop) → ReadsChar (m.unit0 m.first_unit) bytes (at + 1) r → ReadsChar m.escape bytes at r
     by (Ok p) h = let l = h.0 in (omega (arith, l), h.1, λ stack slot t. goes stack slot t ∙ h.2 stack slot t)
     by (Err x) h = λ stack slot t. faults_behind x _ _ (goes stack slot t) (h stack slot t)

@@ -97,7 +97,7 @@ deep_goes levels s b e f =
     let k : ℕ = suc (depth_of s) in
     let enough : depth_of s < levels + k = omega arith in
     let go = subst (λ (x : Bool). Keeps (depth_of s < levels + k) stuck (m.byte_step (levels + k) s b) x) f
-        (subst (λ (a : Answer State Json). Keeps (depth_of s < levels + k) a (m.byte_step (levels + k) s b) (is_deep levels s b)) e (byte_keeps levels k s b)) in
+    (subst (λ (a : Answer State Json). Keeps (depth_of s < levels + k) a (m.byte_step (levels + k) s b) (is_deep levels s b)) e (byte_keeps levels k s b)) in
     let r = go enough in (k, r.0, r.1)
 
 -- whole runs

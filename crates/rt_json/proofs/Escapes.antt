@@ -130,7 +130,7 @@ chars_again (ch ∷ cs) before ys s =
     let whole : (before ++ encode_utf8 ch) ++ encodes cs ≡ before ++ (encode_utf8 ch ++ encodes cs) = append_assoc before (encode_utf8 ch) (encodes cs) in
     let rest = subst (λ (all : List ℕ). IsRest (before ++ encode_utf8 ch) all (flat_map written_byte (encodes cs) ++ 34 ∷ ys) ys) whole more in
     let split : flat_map written_byte (encode_utf8 ch ++ encodes cs) ++ 34 ∷ ys ≡ flat_map written_byte (encode_utf8 ch) ++ (flat_map written_byte (encodes cs) ++ 34 ∷ ys) =
-        ap (λ (xs : List ℕ). xs ++ 34 ∷ ys) (flat-append (encode_utf8 ch) (encodes cs)) ∙ append_assoc (flat_map written_byte (encode_utf8 ch)) (flat_map written_byte (encodes cs)) (34 ∷ ys) in
+    ap (λ (xs : List ℕ). xs ++ 34 ∷ ys) (flat-append (encode_utf8 ch) (encodes cs)) ∙ append_assoc (flat_map written_byte (encode_utf8 ch)) (flat_map written_byte (encodes cs)) (34 ∷ ys) in
     subst (λ (xs : List ℕ). IsRest before (before ++ (encode_utf8 ch ++ encodes cs)) xs ys) (sym split) (by rest (order ch 128) sc.0)
   where
     by : IsRest (before ++ encode_utf8 ch) (before ++ (encode_utf8 ch ++ encodes cs)) (flat_map written_byte (encodes cs) ++ 34 ∷ ys) ys → (ch < 128) ⊎ (128 ≤ ch) → scalar ch ≡ true
@@ -140,7 +140,7 @@ chars_again (ch ∷ cs) before ys s =
         let written_one : flat_map written_byte (encode_utf8 ch) ≡ written_byte ch = ap (flat_map written_byte) one ∙ append-nil (written_byte ch) in
         subst (λ (xs : List ℕ). IsRest before (before ++ (encode_utf8 ch ++ encodes cs)) (xs ++ (flat_map written_byte (encodes cs) ++ 34 ∷ ys)) ys) (sym written_one)
         (ascii_again ch lt before (before ++ (encode_utf8 ch ++ encodes cs)) (flat_map written_byte (encodes cs) ++ 34 ∷ ys) ys
-            (subst (λ (xs : List ℕ). IsRest (before ++ xs) (before ++ (encode_utf8 ch ++ encodes cs)) (flat_map written_byte (encodes cs) ++ 34 ∷ ys) ys) one rest))
+        (subst (λ (xs : List ℕ). IsRest (before ++ xs) (before ++ (encode_utf8 ch ++ encodes cs)) (flat_map written_byte (encodes cs) ++ 34 ∷ ys) ys) one rest))
     by rest (inr le) sc =
         subst (λ (xs : List ℕ). IsRest before (before ++ (encode_utf8 ch ++ encodes cs)) (xs ++ (flat_map written_byte (encodes cs) ++ 34 ∷ ys)) ys) (sym (char_written ch sc le))
         (t.plain {c = ch} (sc, omega (arith, le), (λ e. omega (arith, e, le)), (λ e. omega (arith, e, le))) rest)

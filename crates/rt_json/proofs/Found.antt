@@ -251,7 +251,7 @@ led_found K text b zs out (Some (kind, count)) e (more, ys, is, fills, (all, us,
       all,
       us,
       subst (λ (xs : List ℕ). IsRest text all xs us) (sym whole)
-      (t.plain {c = ch.char} (ch.is_scalar, omega (arith, high), (λ e. absurd (omega (arith, e, high))), (λ e. absurd (omega (arith, e, high)))) (subst (λ (xs : List ℕ). IsRest xs all ys us) regrouped rest)),
+          (t.plain {c = ch.char} (ch.is_scalar, omega (arith, high), (λ e. absurd (omega (arith, e, high))), (λ e. absurd (omega (arith, e, high)))) (subst (λ (xs : List ℕ). IsRest xs all ys us) regrouped rest)),
       k,
     )
 
@@ -268,16 +268,20 @@ between_found K text b zs out =
         (all, us, at (λ xs. IsRest text all xs us) b 92 zs e (subst (λ (xs : List ℕ). IsRest text all (92 ∷ xs) us) (sym is) (t.short s rest)), k)
     escape e (inr (ys, is, (b1, p, y1, i1, h1, (b2, q, y2, i2, h2, (b3, r, y3, i3, h3, (b4, s, y4, i4, h4, h)))))) =
         let four : IsUnit (((p * 16 + q) * 16 + r) * 16 + s) ys y4 =
-            subst (λ (xs : List ℕ). IsUnit (((p * 16 + q) * 16 + r) * 16 + s) xs y4)
-            (sym (i1 ∙ ap (λ (xs : List ℕ). b1 ∷ xs) (i2 ∙ ap (λ (xs : List ℕ). b2 ∷ xs) (i3 ∙ ap (λ (xs : List ℕ). b3 ∷ xs) i4)))) (t.four h1 h2 h3 h4) in
+        subst (λ (xs : List ℕ). IsUnit (((p * 16 + q) * 16 + r) * 16 + s) xs y4)
+        (sym (i1 ∙ ap (λ (xs : List ℕ). b1 ∷ xs) (i2 ∙ ap (λ (xs : List ℕ). b2 ∷ xs) (i3 ∙ ap (λ (xs : List ℕ). b3 ∷ xs) i4)))) (t.four h1 h2 h3 h4) in
         unit e ys y4 (((p * 16 + q) * 16 + r) * 16 + s) is four h
       where
         unit : b ≡ 92 → (ys y4 : List ℕ) (u : ℕ) → zs ≡ 117 ∷ ys → IsUnit u ys y4 → BehindUnit K text m.first_unit u y4 out → AtRest K text (b ∷ zs) out
         unit e ys y4 u is four (inl (s, (all, us, rest, k))) =
             (all, us, at (λ xs. IsRest text all xs us) b 92 zs e (subst (λ (xs : List ℕ). IsRest text all (92 ∷ xs) us) (sym is) (t.unit four s rest)), k)
-        unit e ys y4 u is four (inr (hi, low, xs, x4, i4, low_unit, lo, (all, us, rest, k))) =
-            (all, us, at (λ xs. IsRest text all xs us) b 92 zs e (subst (λ (xs : List ℕ). IsRest text all (92 ∷ xs) us) (sym is)
-            (t.pair (subst (IsUnit u ys) i4 four) hi low_unit lo rest)), k)
+        unit e ys y4 u is four (inr (hi, low, xs, x4, i4, low_unit, lo, (all, us, rest, k))) = (
+          all,
+          us,
+          at (λ xs. IsRest text all xs us) b 92 zs e (subst (λ (xs : List ℕ). IsRest text all (92 ∷ xs) us) (sym is)
+              (t.pair (subst (IsUnit u ys) i4 four) hi low_unit lo rest)),
+          k,
+        )
 
 first_found : (K : Behind (List ℕ)) (text : List ℕ) (half : Half) (b : ℕ) (zs : List ℕ) (out : Json) (o : Option ℕ) → hex_value b ≡ o
     → TextRest K text (m.first_read text half o) zs out → Unit0 K text half (b ∷ zs) out
@@ -301,10 +305,17 @@ third_found K text half v b zs out (Some x) e h = (b, x, zs, refl, e, h)
 -- behind a high surrogate stands the low one
 low_unit : (K : Behind (List ℕ)) (text : List ℕ) (u : ℕ) (zs : List ℕ) (out : Json) → is_high u ≡ true → InText K text (m.high u) zs out → BehindUnit K text m.first_unit u zs out
 low_unit K text u zs out hi (ys, is, (b1, p, y1, i1, h1, (b2, q, y2, i2, h2, (b3, r, y3, i3, h3, (b4, s, y4, i4, h4, (lo, rest)))))) =
-    inr (hi, ((p * 16 + q) * 16 + r) * 16 + s, ys, y4, is,
+    inr (
+      hi,
+      ((p * 16 + q) * 16 + r) * 16 + s,
+      ys,
+      y4,
+      is,
       subst (λ (xs : List ℕ). IsUnit (((p * 16 + q) * 16 + r) * 16 + s) xs y4)
-      (sym (i1 ∙ ap (λ (xs : List ℕ). b1 ∷ xs) (i2 ∙ ap (λ (xs : List ℕ). b2 ∷ xs) (i3 ∙ ap (λ (xs : List ℕ). b3 ∷ xs) i4)))) (t.four h1 h2 h3 h4),
-      lo, rest)
+          (sym (i1 ∙ ap (λ (xs : List ℕ). b1 ∷ xs) (i2 ∙ ap (λ (xs : List ℕ). b2 ∷ xs) (i3 ∙ ap (λ (xs : List ℕ). b3 ∷ xs) i4)))) (t.four h1 h2 h3 h4),
+      lo,
+      rest,
+    )
 
 unit_found : (K : Behind (List ℕ)) (text : List ℕ) (half : Half) (u : ℕ) (zs : List ℕ) (out : Json) → TextRest K text (m.unit_ended text half u) zs out → BehindUnit K text half u zs out
 unit_found K text m.first_unit u zs out =

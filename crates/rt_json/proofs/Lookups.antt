@@ -24,7 +24,7 @@ last_at name members at i m d next lt is same none e =
     let one : m ≡ d = let both : m ∷ rest ≡ d ∷ rest = sym here ∙ there in cc in
     let after : last_named name rest ≡ None = ap (λ (n : ℕ). last_named name (drop n members)) next ∙ none in
     let found : last_named name (m ∷ rest) ≡ Some m.value =
-        ap (λ (o : Option Json). or_else o (cond (bytes_eq m.name name) (Some m.value) None)) after ∙ ap (λ (b : Bool). cond b (Some m.value) None) e in
+    ap (λ (o : Option Json). or_else o (cond (bytes_eq m.name name) (Some m.value) None)) after ∙ ap (λ (b : Bool). cond b (Some m.value) None) e in
     ap (last_named name) (sym (take-append-drop i members))
     ∙ last_behind name (take i members) (drop i members) m.value (ap (last_named name) here ∙ found) ∙ ap (λ (x : Member). Some x.value) one
 

@@ -114,7 +114,7 @@ char_outcome stack slot t ch xs sc plain = by (order ch 128)
         let mb = multibyte ch sc high in
         ap (λ (ys : List ℕ). at_text stack slot t m.between (ys ++ xs)) mb.bytes
         ∙ text_next stack slot t (t ++ mb.first ∷ []) m.between (m.filling mb.kind mb.count) mb.first (mb.more ++ xs)
-            (lead_step t mb.first (high_byte mb.first mb.high) mb.high ∙ ap (m.led (t ++ mb.first ∷ [])) mb.leads)
+        (lead_step t mb.first (high_byte mb.first mb.high) mb.high ∙ ap (m.led (t ++ mb.first ∷ [])) mb.leads)
         ∙ fills_outcome stack slot (t ++ mb.first ∷ []) mb.kind mb.count mb.more xs mb.fills
         ∙ ap (λ (ys : List ℕ). at_text stack slot ys m.between xs) (append_assoc t (mb.first ∷ []) mb.more)
         ∙ ap (λ (ys : List ℕ). at_text stack slot (t ++ ys) m.between xs) (sym mb.bytes)
@@ -203,8 +203,8 @@ led_closes t b None v l u e = absurd cc
 led_closes t b (Some (kind, count)) v l u e =
     let is : Some (kind, count) ≡ v = cc in
     subst (Closes (t ++ b ∷ [])) is (λ more f.
-        let ch = character kind count b more (lead_means b kind count l) f in
-        subst IsUtf8 (ap (λ (xs : List ℕ). t ++ xs) ch.bytes ∙ sym (append_assoc t (b ∷ []) more)) (IsUtf8-append t (encode_utf8 ch.char) u (IsUtf8-encode ch.char ch.is_scalar)))
+    let ch = character kind count b more (lead_means b kind count l) f in
+    subst IsUtf8 (ap (λ (xs : List ℕ). t ++ xs) ch.bytes ∙ sym (append_assoc t (b ∷ []) more)) (IsUtf8-append t (encode_utf8 ch.char) u (IsUtf8-encode ch.char ch.is_scalar)))
 
 left_closes : (t : List ℕ) (b : ℕ) (kind : Tail) (count : ℕ) → in_tail kind b ≡ true → Closes t (Some (kind, count)) → Closes (t ++ b ∷ []) (char_left count)
 left_closes t b kind zero e h = h (b ∷ []) (e, refl)
@@ -262,13 +262,15 @@ lengths run rest i = length-append (drop i run) rest ∙ ap (λ (n : ℕ). n + l
 pub at_break : (run : List ℕ) (i b : ℕ) (w : Option (Tail × ℕ)) → i < length run → b ≡ get_or run i 0 → IsAt run i w → char_step w b ≡ None → BreaksAt run i
 at_break run i b w lt is a e =
     let here : Here run i b = drop_more run i 0 lt ∙ ap (λ (x : ℕ). x ∷ drop (i + 1) run) (sym is) in
-    let p = here_plain run i b here a.plain in
-    (omega arith, λ rest stop stack slot t.
-        let l1 = lengths run rest i in let l2 = length-append run rest in
-        let n : length (drop i run ++ rest) ≡ length (run ++ rest) - i = omega (arith, l1, l2) in
-        a.same rest stack slot t ∙ ap (λ (xs : List ℕ). at_text stack slot (t ++ take i run) (inner_of w) (xs ++ rest)) here
-        ∙ text_stuck stack slot (t ++ take i run) (inner_of w) b (drop (i + 1) run ++ rest) (char_breaks (t ++ take i run) w b (plain_byte b p.0) e)
-        ∙ ap (λ (xs : List ℕ). bad (length (xs ++ rest))) (sym here) ∙ ap bad n)
+    let p = here_plain run i b here a.plain in (
+      omega arith,
+      λ rest stop stack slot t.
+          let l1 = lengths run rest i in let l2 = length-append run rest in
+          let n : length (drop i run ++ rest) ≡ length (run ++ rest) - i = omega (arith, l1, l2) in
+          a.same rest stack slot t ∙ ap (λ (xs : List ℕ). at_text stack slot (t ++ take i run) (inner_of w) (xs ++ rest)) here
+          ∙ text_stuck stack slot (t ++ take i run) (inner_of w) b (drop (i + 1) run ++ rest) (char_breaks (t ++ take i run) w b (plain_byte b p.0) e)
+          ∙ ap (λ (xs : List ℕ). bad (length (xs ++ rest))) (sym here) ∙ ap bad n,
+    )
 
 ascii_no_tail : (kind : Tail) (b : ℕ) → b < 128 → in_tail kind b ≡ false
 ascii_no_tail tail.Any b h = rw (lt-leb 128 b h) refl
@@ -288,10 +290,14 @@ at_end run i w le ge wrong a = by w a
   where
     whole : take i run ≡ run
     whole = let e : i ≡ length run = omega arith in ap (λ (n : ℕ). take n run) e ∙ take-length run
+
     by : (w : Option (Tail × ℕ)) → IsAt run i w → BreaksAt run (length run)
     by None a = absurd (wrong (subst IsUtf8 whole a.closes))
-    by (Some (kind, count)) a = (omega arith, λ rest stop stack slot t.
-        let l2 = length-append run rest in
-        let n : length rest ≡ length (run ++ rest) - length run = omega (arith, l2) in
-        a.same rest stack slot t ∙ ap (λ (xs : List ℕ). at_text stack slot (t ++ take i run) (m.filling kind count) (xs ++ rest)) (drop_all i run le)
-        ∙ open_end stack slot (t ++ take i run) kind count rest stop ∙ ap bad n)
+    by (Some (kind, count)) a = (
+      omega arith,
+      λ rest stop stack slot t.
+          let l2 = length-append run rest in
+          let n : length rest ≡ length (run ++ rest) - length run = omega (arith, l2) in
+          a.same rest stack slot t ∙ ap (λ (xs : List ℕ). at_text stack slot (t ++ take i run) (m.filling kind count) (xs ++ rest)) (drop_all i run le)
+          ∙ open_end stack slot (t ++ take i run) kind count rest stop ∙ ap bad n,
+    )

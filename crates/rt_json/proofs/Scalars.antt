@@ -68,7 +68,9 @@ pub record IsRun (s : Digits) (xs : List ℕ) (stop : Digits × List ℕ) : Type
 
 digits_run : (s : Digits) (xs : List ℕ) → IsRun s xs (past_digits s xs)
 digits_run s [] = record {
-  run = []; parts = refl; utf8 = IsUtf8-nil;
+  run = [];
+  parts = refl;
+  utf8 = IsUtf8-nil;
   same = λ stack t. ap (λ (ys : List ℕ). outcome (m.in_number stack s ys) []) (sym (append-nil t));
   ends = λ b bs e. absurd cc;
 }
@@ -85,7 +87,9 @@ digits_run s (b ∷ bs) = by (digits_after s b) refl (goes_low s b) (λ k. digit
       ends = r.ends;
     }
     by None e low on = record {
-      run = []; parts = refl; utf8 = IsUtf8-nil;
+      run = [];
+      parts = refl;
+      utf8 = IsUtf8-nil;
       same = λ stack t. ap (λ (ys : List ℕ). outcome (m.in_number stack s ys) (b ∷ bs)) (sym (append-nil t));
       ends = λ x ys is. let same : b ≡ x = cc in subst (λ (z : ℕ). digits_after s z ≡ None) same e;
     }
@@ -157,9 +161,12 @@ number_at bytes at to start digits lt order within e past =
 
 pub number_ok : (bytes : List ℕ) (at to : ℕ) (digits : Digits) (text : List ℕ) → at + 1 ≤ to → to ≤ length bytes → IsNumberAt bytes at to digits → may_end digits ≡ true
     → text ≡ take (to - at) (drop at bytes) → ValueReads bytes at (Ok (j.Num text, to))
-number_ok bytes at to digits text order within n may is =
-    (omega arith, within, λ stack.
-        n.same stack ∙ number_done stack digits (take (to - at) (drop at bytes)) (drop to bytes) may n.ends ∙ ap (λ (ys : List ℕ). outcome (m.completed stack (j.Num ys)) (drop to bytes)) (sym is))
+number_ok bytes at to digits text order within n may is = (
+  omega arith,
+  within,
+  λ stack.
+      n.same stack ∙ number_done stack digits (take (to - at) (drop at bytes)) (drop to bytes) may n.ends ∙ ap (λ (ys : List ℕ). outcome (m.completed stack (j.Num ys)) (drop to bytes)) (sym is),
+)
 
 pub number_err : (bytes : List ℕ) (at to : ℕ) (digits : Digits) → IsNumberAt bytes at to digits → may_end digits ≡ false → ValueReads bytes at (Err (stop.Bad (length bytes - to)))
 number_err bytes at to digits n may = λ stack.
@@ -202,6 +209,9 @@ word_stops bytes at to i which li le n h stack =
         ap (outcome (m.in_word stack (get_or (word_rest which) i 0) (drop (i + 1) (word_rest which)) (word_tree which))) (drop_all to bytes ge) ∙ ap bad none
 
 pub word_ok : (bytes : List ℕ) (at to i : ℕ) (which : Word) (tree : Json) → length (word_rest which) ≤ i → at < to → to ≤ length bytes → tree ≡ word_tree which → WordLeads bytes at to which i → ValueReads bytes at (Ok (tree, to))
-word_ok bytes at to i which tree all lt le is h =
-    (lt, le, λ stack. h stack ∙ ap (λ (xs : List ℕ). outcome (m.word_left stack xs (word_tree which)) (drop to bytes)) (drop_all i (word_rest which) all)
-        ∙ ap (λ (v : Json). outcome (m.completed stack v) (drop to bytes)) (sym is))
+word_ok bytes at to i which tree all lt le is h = (
+  lt,
+  le,
+  λ stack. h stack ∙ ap (λ (xs : List ℕ). outcome (m.word_left stack xs (word_tree which)) (drop to bytes)) (drop_all i (word_rest which) all)
+      ∙ ap (λ (v : Json). outcome (m.completed stack v) (drop to bytes)) (sym is),
+)

@@ -113,13 +113,16 @@ module _ (K : Behind (List ℕ)) (some : (text : List ℕ) → Ends (K text)) (t
     where
       as_scalar : scalar u ≡ true → Ends (BehindUnit K text m.first_unit u)
       as_scalar e = let k = rest_some K some (text ++ encode_utf8 u) in (k.0, k.1, inl (e, k.2))
+
       by : (u < 55296) ⊎ (55296 ≤ u) → (u < 56320) ⊎ (57344 ≤ u) → Ends (BehindUnit K text m.first_unit u)
       by (inl a) _ = as_scalar (low_scalar u a)
       by (inr a) (inr b) = as_scalar (is_a_scalar u (omega (arith, top)) (inr b))
       by (inr a) (inl b) =
-          let k = rest_some K some (text ++ encode_utf8 (t.pair_code u 56320)) in
-          (92 ∷ 117 ∷ 100 ∷ 99 ∷ 48 ∷ 48 ∷ k.0, k.1,
-            inr (is_high_by u a b, 56320, 100 ∷ 99 ∷ 48 ∷ 48 ∷ k.0, k.0, refl, t.four {p = 13} {q = 12} {r = 0} {s = 0} refl refl refl refl, refl, k.2))
+          let k = rest_some K some (text ++ encode_utf8 (t.pair_code u 56320)) in (
+            92 ∷ 117 ∷ 100 ∷ 99 ∷ 48 ∷ 48 ∷ k.0,
+            k.1,
+            inr (is_high_by u a b, 56320, 100 ∷ 99 ∷ 48 ∷ 48 ∷ k.0, k.0, refl, t.four {p = 13} {q = 12} {r = 0} {s = 0} refl refl refl refl, refl, k.2),
+          )
 
   unit3_some : (half : Half) (v : ℕ) → SoundInner (m.unit3 half v) → Ends (Unit3 K text half v)
   unit3_some m.first_unit v s =

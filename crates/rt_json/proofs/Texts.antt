@@ -50,11 +50,14 @@ control_breaks bytes next text lt stops no34 no92 stack slot = text_breaks bytes
   where
     is_here : drop next bytes ≡ get_or bytes next 0 ∷ drop (next + 1) bytes
     is_here = here bytes next lt
+
     stop : is_plain (get_or bytes next 0) ≡ false
     stop = stop_byte (get_or bytes next 0) (drop (next + 1) bytes) (ap past_plain (sym is_here) ∙ stops ∙ is_here)
+
     by : (get_or bytes next 0 < 32) ⊎ (32 ≤ get_or bytes next 0) → get_or bytes next 0 < 32
     by (inl l) = l
     by (inr l) = let not = stop in let yes : is_plain (get_or bytes next 0) ≡ true = rw (le-leb 32 (get_or bytes next 0) l, ne_eqb (get_or bytes next 0) 34 no34, ne_eqb (get_or bytes next 0) 92 no92) refl in absurd cc
+
     low : get_or bytes next 0 < 32
     low = by (order (get_or bytes next 0) 32)
 

@@ -72,10 +72,13 @@ first_test false (m.second_unit u) v is h = absurd is
 
 pub first_ok : (bytes : List ℕ) (at : ℕ) (second : Bool) (v : ℕ) → DigitReads bytes at (Ok v) → (second ≡ true → v ≡ 13) → FirstReads bytes at second (Ok v)
 first_ok bytes at second v d h =
-    let lt = d.0 in
-    (omega (arith, lt), d.1, λ half is stack slot t.
-        text_goes bytes at (at + 1) stack slot t t (m.unit0 half) (m.unit1 half v) lt refl
-        (ap (m.first_read t half) d.2 ∙ ap (λ (x : Bool). cond x (m.goes t (m.unit1 half v)) m.broken) (first_test second half v is h)))
+    let lt = d.0 in (
+      omega (arith, lt),
+      d.1,
+      λ half is stack slot t.
+          text_goes bytes at (at + 1) stack slot t t (m.unit0 half) (m.unit1 half v) lt refl
+          (ap (m.first_read t half) d.2 ∙ ap (λ (x : Bool). cond x (m.goes t (m.unit1 half v)) m.broken) (first_test second half v is h)),
+    )
 
 pub first_digit_err : (bytes : List ℕ) (at : ℕ) (second : Bool) (e : Stop) → at ≤ length bytes → DigitReads bytes at (Err e) → FirstReads bytes at second (Err e)
 first_digit_err bytes at second e within d half is = digit_faults bytes at e (m.unit0 half) within (refuses0 half) d
@@ -107,6 +110,7 @@ front_fails second half v is n = same half ∙ by second half (is_low_front v) i
     same : (half : Half) → two_digits half v ≡ front_of half (is_low_front v)
     same m.first_unit = refl
     same (m.second_unit u) = refl
+
     by : (second : Bool) (half : Half) (x : Bool) → IsHalfOf second half → (x ≡ second → ⊥) → front_of half x ≡ false
     by true (m.second_unit u) true is n = absurd (n refl)
     by true (m.second_unit u) false is n = refl
@@ -118,12 +122,16 @@ front_fails second half v is n = same half ∙ by second half (is_low_front v) i
 pub front_ok : (bytes : List ℕ) (at : ℕ) (second : Bool) (v x w : ℕ) → FirstReads bytes at second (Ok v) → DigitReads bytes (at + 1) (Ok x) → w ≡ v * 16 + x → is_low_front w ≡ second
     → FrontReads bytes at second (Ok w)
 front_ok bytes at second v x w f d is low =
-    let lt = d.0 in let hv = f.1 in let hx = d.1 in
-    (omega (arith, lt), omega (arith, hv, hx, is), low, λ half h stack slot t.
-        f.2 half h stack slot t
-        ∙ text_goes bytes (at + 1) (at + 2) stack slot t t (m.unit1 half v) (m.unit2 half w) lt (omega arith)
-        (ap (m.second_read t half v) d.2 ∙ ap (λ (y : ℕ). cond (two_digits half y) (m.goes t (m.unit2 half y)) m.broken) (sym is)
-        ∙ ap (λ (y : Bool). cond y (m.goes t (m.unit2 half w)) m.broken) (front_test second half w h low)))
+    let lt = d.0 in let hv = f.1 in let hx = d.1 in (
+      omega (arith, lt),
+      omega (arith, hv, hx, is),
+      low,
+      λ half h stack slot t.
+          f.2 half h stack slot t
+          ∙ text_goes bytes (at + 1) (at + 2) stack slot t t (m.unit1 half v) (m.unit2 half w) lt (omega arith)
+          (ap (m.second_read t half v) d.2 ∙ ap (λ (y : ℕ). cond (two_digits half y) (m.goes t (m.unit2 half y)) m.broken) (sym is)
+          ∙ ap (λ (y : Bool). cond y (m.goes t (m.unit2 half w)) m.broken) (front_test second half w h low)),
+    )
 
 pub front_digit_err : (bytes : List ℕ) (at : ℕ) (second : Bool) (v : ℕ) (e : Stop) → FirstReads bytes at second (Ok v) → DigitReads bytes (at + 1) (Err e) → FrontReads bytes at second (Err e)
 front_digit_err bytes at second v e f d =
@@ -196,12 +204,16 @@ pub unit_ok : (bytes : List ℕ) (at : ℕ) (second : Bool) (v x y u : ℕ) → 
 unit_ok bytes at second v x y u f d g is =
     let lt = g.0 in let hx = d.1 in let hy = g.1 in let small = f.1 in
     let low : is_low u ≡ second = ap is_low is ∙ is_low_front_range second v x y f.2 hx hy in
-    let top : u < 65536 = omega (arith, hx, hy, small, is) in
-    (omega (arith, lt), top, low, λ half h stack slot t.
-        third_ok bytes at second v x f d half h stack slot t
-        ∙ last bytes (at + 3) stack slot t (m.unit3 half (v * 16 + x)) (m.unit_ended t half u) lt
-        (ap (m.fourth_read t half (v * 16 + x)) g.2 ∙ ap (m.unit_ended t half) (sym is)) (unit_stands second half t u h top low)
-        ∙ ap (λ (n : ℕ). after_text stack slot t (m.unit_ended t half u) (drop n bytes)) (omega arith))
+    let top : u < 65536 = omega (arith, hx, hy, small, is) in (
+      omega (arith, lt),
+      top,
+      low,
+      λ half h stack slot t.
+          third_ok bytes at second v x f d half h stack slot t
+          ∙ last bytes (at + 3) stack slot t (m.unit3 half (v * 16 + x)) (m.unit_ended t half u) lt
+          (ap (m.fourth_read t half (v * 16 + x)) g.2 ∙ ap (m.unit_ended t half) (sym is)) (unit_stands second half t u h top low)
+          ∙ ap (λ (n : ℕ). after_text stack slot t (m.unit_ended t half u) (drop n bytes)) (omega arith),
+    )
 
 -- tests of two truth values
 pub bool_same : (a b : Bool) → beq a b ≡ true → a ≡ b

@@ -119,20 +119,38 @@ follows x = within 128 192 (next x) (omega arith) (omega arith)
 
 of_two : (c : ℕ) → 128 ≤ c → c < 2048 → IsMultibyte c
 of_two c l h = record {
-  first = 192 + c / 64; more = next c ∷ []; kind = tail.Any; count = 0;
-  bytes = two c l h; high = omega arith; leads = lead_two (192 + c / 64) (omega arith) (omega arith); fills = (follows c, refl);
+  first = 192 + c / 64;
+  more = next c ∷ [];
+  kind = tail.Any;
+  count = 0;
+  bytes = two c l h;
+  high = omega arith;
+  leads = lead_two (192 + c / 64) (omega arith) (omega arith);
+  fills = (follows c, refl);
 }
 
 of_three_by : (c : ℕ) (t : Tail) → 2048 ≤ c → c < 65536 → lead (224 + c / 4096) ≡ Some (t, 1) → in_tail t (next (c / 64)) ≡ true → IsMultibyte c
 of_three_by c t l h e i = record {
-  first = 224 + c / 4096; more = next (c / 64) ∷ next c ∷ []; kind = t; count = 1;
-  bytes = three c l h; high = omega arith; leads = e; fills = (i, (follows c, refl));
+  first = 224 + c / 4096;
+  more = next (c / 64) ∷ next c ∷ [];
+  kind = t;
+  count = 1;
+  bytes = three c l h;
+  high = omega arith;
+  leads = e;
+  fills = (i, (follows c, refl));
 }
 
 of_four_by : (c : ℕ) (t : Tail) → 65536 ≤ c → lead (240 + c / 262144) ≡ Some (t, 2) → in_tail t (next (c / 4096)) ≡ true → IsMultibyte c
 of_four_by c t l e i = record {
-  first = 240 + c / 262144; more = next (c / 4096) ∷ next (c / 64) ∷ next c ∷ []; kind = t; count = 2;
-  bytes = four c l; high = omega arith; leads = e; fills = (i, (follows (c / 64), (follows c, refl)));
+  first = 240 + c / 262144;
+  more = next (c / 4096) ∷ next (c / 64) ∷ next c ∷ [];
+  kind = t;
+  count = 2;
+  bytes = four c l;
+  high = omega arith;
+  leads = e;
+  fills = (i, (follows (c / 64), (follows c, refl)));
 }
 
 of_three : (c : ℕ) → 2048 ≤ c → c < 65536 → (c < 55296) ⊎ (57344 ≤ c) → IsMultibyte c
@@ -203,6 +221,7 @@ to_three b x y l h m n o k low237 high237 =
     by_low : (b < 225) ⊎ (225 ≤ b) → 2048 ≤ (b - 224) * 4096 + ((x - 128) * 64 + (y - 128))
     by_low (inl e) = let is : b ≡ 224 = omega arith in let z : 160 ≤ x = low237 is in omega arith
     by_low (inr e) = omega arith
+
     by_high : (b < 237) ⊎ (237 ≤ b) → (b < 238) ⊎ (238 ≤ b) → ((b - 224) * 4096 + ((x - 128) * 64 + (y - 128)) < 55296) ⊎ (57344 ≤ (b - 224) * 4096 + ((x - 128) * 64 + (y - 128)))
     by_high (inl e) _ = inl (omega arith)
     by_high (inr e) (inl f) = let is : b ≡ 237 = omega arith in let z : x < 160 = high237 is in inl (omega arith)
@@ -227,6 +246,7 @@ to_four b x y w l h m n o k i j low240 high244 =
     by_low : (b < 241) ⊎ (241 ≤ b) → 65536 ≤ (b - 240) * 262144 + ((x - 128) * 4096 + ((y - 128) * 64 + (w - 128)))
     by_low (inl e) = let is : b ≡ 240 = omega arith in let z : 144 ≤ x = low240 is in omega arith
     by_low (inr e) = omega arith
+
     by_high : (b < 244) ⊎ (244 ≤ b) → (b - 240) * 262144 + ((x - 128) * 4096 + ((y - 128) * 64 + (w - 128))) < 1114112
     by_high (inl e) = omega arith
     by_high (inr e) = let is : b ≡ 244 = omega arith in let z : x < 144 = high244 is in omega arith
@@ -250,6 +270,7 @@ character t (suc zero) b (x ∷ y ∷ ys) l f = go t l f
   where
     end : (x y : ℕ) (ys : List ℕ) → ys ≡ [] → IsCharacter b (x ∷ y ∷ []) → IsCharacter b (x ∷ y ∷ ys)
     end x y ys e = subst (λ (zs : List ℕ). IsCharacter b (x ∷ y ∷ zs)) (sym e)
+
     go : (t : Tail) → LeadOf t (suc zero) b → Fills t (suc zero) (x ∷ y ∷ ys) → IsCharacter b (x ∷ y ∷ ys)
     go tail.Any l f =
         let r = any x f.0 in let s = any y f.1.0 in
@@ -266,6 +287,7 @@ character t (suc (suc zero)) b (x ∷ y ∷ w ∷ ws) l f = go t l f
   where
     end : (x y w : ℕ) (ws : List ℕ) → ws ≡ [] → IsCharacter b (x ∷ y ∷ w ∷ []) → IsCharacter b (x ∷ y ∷ w ∷ ws)
     end x y w ws e = subst (λ (zs : List ℕ). IsCharacter b (x ∷ y ∷ w ∷ zs)) (sym e)
+
     go : (t : Tail) → LeadOf t (suc (suc zero)) b → Fills t (suc (suc zero)) (x ∷ y ∷ w ∷ ws) → IsCharacter b (x ∷ y ∷ w ∷ ws)
     go tail.Any l f =
         let r = any x f.0 in let s = any y f.1.0 in let u = any w f.1.1.0 in

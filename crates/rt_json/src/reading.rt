@@ -149,12 +149,7 @@ fn next_name(
 }
 
 /// Goes on from a state: over a byte, or over a word, a number or a text.
-fn advance(
-    alloc: Global,
-    state: State,
-    bytes: &[u8],
-    at: usize,
-) -> Result<(State, usize), Stop>
+fn advance(alloc: Global, state: State, bytes: &[u8], at: usize) -> Result<(State, usize), Stop>
     requires { at < length bytes.now }
     ensures { Advances bytes.now at (state_of state) result }
 {
@@ -245,8 +240,7 @@ pub fn read(alloc: Global, bytes: &[u8]) -> Result<Json, JsonFault>
 pub fn one_tree()
     ensures one { (bytes : List ℕ) (a b : Json) → IsJson bytes a → IsJson bytes b → a ≡ b }
     ensures computed { (bytes : List ℕ) (tree : Json) → IsJson bytes tree ↔ (tree_of bytes ≡ Some tree) }
-{
-}
+{}
 
 /// Bytes that are no tree have one fault at one place.
 pub fn one_fault()
@@ -256,5 +250,4 @@ pub fn one_fault()
     ensures bad_no_tree { (bytes : List ℕ) (a : ℕ) (tree : Json) → IsBadAt bytes a → IsJson bytes tree → ⊥ }
     ensures deep_no_tree { (bytes : List ℕ) (a : ℕ) (tree : Json) → IsTooDeepAt bytes a → IsJson bytes tree → ⊥ }
     ensures some { (bytes : List ℕ) → HasAnswer bytes }
-{
-}
+{}

@@ -11,12 +11,7 @@ use rt_value::Text;
 use std::alloc::Global;
 
 /// The number that begins here, and the place behind it.
-pub fn number(
-    alloc: Global,
-    bytes: &[u8],
-    at: usize,
-    start: Digits,
-) -> Result<(Json, usize), Stop>
+pub fn number(alloc: Global, bytes: &[u8], at: usize, start: Digits) -> Result<(Json, usize), Stop>
     requires within { at < length bytes.now }
     requires begins { spec.class_of (slice_index bytes.now at) ≡ Class.NumberStart start }
     ensures { ValueReads bytes.now at result }

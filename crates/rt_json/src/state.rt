@@ -206,12 +206,7 @@ pub fn after_member(
     }
 }
 
-pub fn after_all(
-    stack: Stack<Frame>,
-    tree: Json,
-    class: Class,
-    left: usize,
-) -> Result<State, Stop>
+pub fn after_all(stack: Stack<Frame>, tree: Json, class: Class, left: usize) -> Result<State, Stop>
     ensures { Steps left result (spec.after_all stack tree class) }
 {
     match class {

@@ -23,12 +23,24 @@ fn end_of(alloc: Global, bytes: &[u8]) -> End {
 #[test]
 fn texts_are_read_and_spelled(rt: HostRuntime) -> Result<(), Fail> {
     for (text, spelling) in [
-        (b" [ 1 , { \"a\" : \"\xc3\xa9\" } ]\n".as_slice(), b"[1,{\"a\":\"\xc3\xa9\"}]".as_slice()),
-        (b"{\"b\":null,\"a\":[true,false],\"b\":{}}", b"{\"b\":null,\"a\":[true,false],\"b\":{}}"),
-        (b"\"\\\" \\\\ \\/ \\b \\f \\n \\r \\t\"", b"\"\\\" \\\\ / \\b \\f \\n \\r \\t\""),
+        (
+            b" [ 1 , { \"a\" : \"\xc3\xa9\" } ]\n".as_slice(),
+            b"[1,{\"a\":\"\xc3\xa9\"}]".as_slice(),
+        ),
+        (
+            b"{\"b\":null,\"a\":[true,false],\"b\":{}}",
+            b"{\"b\":null,\"a\":[true,false],\"b\":{}}",
+        ),
+        (
+            b"\"\\\" \\\\ \\/ \\b \\f \\n \\r \\t\"",
+            b"\"\\\" \\\\ / \\b \\f \\n \\r \\t\"",
+        ),
         (b"\"\\u00e9\"", b"\"\xc3\xa9\""),
         (b"\"\\ud83d\\uDE00\"", b"\"\xf0\x9f\x98\x80\""),
-        (b"\"\\u0000\\u001f\\u001F\\u007f\"", b"\"\\u0000\\u001f\\u001f\x7f\""),
+        (
+            b"\"\\u0000\\u001f\\u001F\\u007f\"",
+            b"\"\\u0000\\u001f\\u001f\x7f\"",
+        ),
         (b"\"\\uFFFF\\uD7FF\"", b"\"\xef\xbf\xbf\xed\x9f\xbf\""),
         (b"\"\xf4\x8f\xbf\xbf\"", b"\"\xf4\x8f\xbf\xbf\""),
         (b"-0", b"-0"),

@@ -13,11 +13,7 @@ fn hex_digit(value: u8) -> u8
     requires { value < 16 }
     ensures { result ≡ hex_digit value }
 {
-    if value < 10 {
-        b'0' + value
-    } else {
-        87 + value
-    }
+    if value < 10 { b'0' + value } else { 87 + value }
 }
 
 #[tactic(auto, unfolding(crate::specs::Written::written_byte))]
@@ -127,5 +123,4 @@ pub fn write(alloc: Global, tree: &Json) -> Result<Bytes, AllocError>
 /// are numbers of the grammar and its texts are UTF-8.
 pub fn written_again()
     ensures { (tree : Json) → FitsWithin max_levels tree → IsJson (written tree) tree }
-{
-}
+{}

@@ -8,7 +8,7 @@ loop-text-preserved c =
     let bytes = c.args.bytes.now in
     let next = c.past_plain-next.result in
     let l1 = piece_leads bytes c.args.at c.loop-text.to next (string_bytes c.args.front) (string_bytes c.loop-text.text) c.in_ok-piece.piece.now (string_bytes c.push_str.new.self)
-        c.loop-text.invariant.same c.in_ok-piece.ensures c.in_ok-push_str.ensures.bytes in
+    c.loop-text.invariant.same c.in_ok-piece.ensures c.in_ok-push_str.ensures.bytes in
     let k = c.in_ok-ch.ensures in
     let past = k.0 in
     record {
@@ -23,5 +23,5 @@ returns-then-stop-ne92 c = λ stack slot.
     let bytes = c.args.bytes.now in
     let next = c.past_plain-next.result in
     let l1 = piece_leads bytes c.args.at c.loop-text.to next (string_bytes c.args.front) (string_bytes c.loop-text.text) c.in_ok-piece.piece.now (string_bytes c.push_str.new.self)
-        c.loop-text.invariant.same c.in_ok-piece.ensures c.in_ok-push_str.ensures.bytes in
+    c.loop-text.invariant.same c.in_ok-piece.ensures c.in_ok-push_str.ensures.bytes in
     l1 stack slot ∙ control_breaks bytes next (string_bytes c.push_str.new.self) (omega arith) (stops_here bytes c.loop-text.to next c.past_plain-next.ensures.rest) c.if-stop-eq34.false c.if-stop-ne92.true stack slot
