@@ -29,7 +29,7 @@ use Rattle.rt_json.proofs.Numbers.{number_ends, ends_on, number_again, class_of_
 use Rattle.rt_json.proofs.Utf8.{Fills, multibyte}
 use Rattle.rt_json.proofs.Hex.{hex_small, fronts, IsHalf, scalar_not_low, high_not_low, high_no_scalar}
 use Rattle.rt_json.proofs.Rest.{inside, left}
-use Rattle.rt_json.proofs.Tests.{order}
+use Rattle.rt_json.proofs.ByteTests.{order}
 
 -- these bytes are read from the state on as the tree
 abbrev pub Reads : ℕ → List ℕ → State → Json → Type 0

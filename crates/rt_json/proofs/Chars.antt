@@ -15,7 +15,7 @@ use Rattle.rt_json.proofs.Steps.{text_goes, text_breaks, text_ends, text_closes}
 use Rattle.rt_json.proofs.Units.{byte_faults, half_range}
 use Rattle.rt_json.proofs.Hex.{high_range, low_range}
 use Rattle.rt_json.proofs.Utf8.{is_a_scalar}
-use Rattle.rt_json.proofs.Tests.{order}
+use Rattle.rt_json.proofs.ByteTests.{order}
 
 -- a fault behind what is read
 pub faults_behind : (e : Stop) (o p : Outcome) → o ≡ p → Faults e p → Faults e o

@@ -12,7 +12,7 @@ use Rattle.rt_json.specs.declared.state.Mode.{Mode}
 use Rattle.rt_json.specs.declared.state.Mode.TheVariants as mode
 use Rattle.rt_json.specs.declared.bytes.Class.{Class}
 use Rattle.rt_json.specs.declared.bytes.Class.TheVariants as c
-use Rattle.rt_json.proofs.Tests.{order}
+use Rattle.rt_json.proofs.ByteTests.{order}
 
 -- An answer that stays with more levels: a next state, or a stop that isn't for the depth. Where there are enough levels, what was too deep goes on.
 abbrev Keeps : Type 0 → Answer State Json → Answer State Json → Bool → Type 0

@@ -11,7 +11,7 @@ use Rattle.rt_json.specs.declared.bytes.Tail.{Tail}
 use Rattle.rt_json.specs.declared.bytes.Tail.TheVariants as tail
 use Rattle.rt_json.specs.Machine.{in_tail}
 use Rattle.rt_json.proofs.Utf8.{Fills, multibyte}
-use Rattle.rt_json.proofs.Tests.{both, order}
+use Rattle.rt_json.proofs.ByteTests.{both, order}
 
 flat-append : (xs ys : List ℕ) → flat_map written_byte (xs ++ ys) ≡ flat_map written_byte xs ++ flat_map written_byte ys
 flat-append [] ys = refl

@@ -5,7 +5,7 @@ use Rattle.std.proofs.lemmas.Bool.{cond_both, leb-true, leb-false, le-leb, lt-le
 use lib.Utf8.{scalar, scalar_cases}
 use Rattle.rt_json.specs.Text.{is_digit, hex_value, is_high, is_low}
 use Rattle.rt_json.specs.Machine.{Half, first_unit, second_unit, first_digit, two_digits, is_low_front}
-use Rattle.rt_json.proofs.Tests.{both, order}
+use Rattle.rt_json.proofs.ByteTests.{both, order}
 
 abbrev IsSmall : Option ℕ → Type 0
 IsSmall None = Unit {0}

@@ -9,7 +9,7 @@ use Rattle.rt_json.specs.Machine.{class_of, digits_after, may_end}
 use Rattle.rt_json.specs.declared.bytes.Class.TheVariants as c
 use Rattle.rt_json.specs.declared.bytes.Digits.{Digits}
 use Rattle.rt_json.specs.declared.bytes.Digits.TheVariants as d
-use Rattle.rt_json.proofs.Tests.{both}
+use Rattle.rt_json.proofs.ByteTests.{both}
 
 abbrev pub ends_on : (Digits → Bool) → Option Digits → Bool
 ends_on more (Some digits) = more digits

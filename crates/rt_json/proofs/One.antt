@@ -7,7 +7,7 @@ use Rattle.rt_json.specs.Machine.{Outcome, is_tree, bad, too_deep, outcome, star
 use Rattle.rt_json.specs.Answers.{HasAnswer}
 use Rattle.rt_json.specs.declared.tree.Json.{Json}
 use Rattle.rt_json.proofs.Meaning.{Means, outcome_means}
-use Rattle.rt_json.proofs.Tests.{order}
+use Rattle.rt_json.proofs.ByteTests.{order}
 
 -- a front of what begins a value begins it
 front_begins : (levels : ℕ) (xs ys : List ℕ) → Begins (IsWithin levels) (xs ++ ys) → Begins (IsWithin levels) xs

@@ -17,7 +17,7 @@ use Rattle.rt_json.specs.declared.bytes.Tail.{Tail}
 use Rattle.rt_json.specs.declared.bytes.Tail.TheVariants as tail
 use Rattle.rt_json.proofs.Utf8.{Fills, multibyte, character, lead_means}
 use Rattle.rt_json.proofs.Steps.{text_next, text_stuck}
-use Rattle.rt_json.proofs.Tests.{both, order}
+use Rattle.rt_json.proofs.ByteTests.{both, order}
 
 pub record IsRun (xs : List ℕ) : Type 0 where
   pub run : List ℕ

@@ -27,7 +27,7 @@ use Rattle.rt_json.specs.declared.stop.Stop.TheVariants as stop
 use Rattle.rt_json.proofs.Classes.{class_means, IsOf}
 use Rattle.rt_json.proofs.Numbers.{StartsNumber}
 use Rattle.rt_json.proofs.Steps.{next_outcome, stuck_outcome, goes, stops, here, slice_is}
-use Rattle.rt_json.proofs.Tests.{both, order}
+use Rattle.rt_json.proofs.ByteTests.{both, order}
 
 -- bytes with which a number goes on are ASCII
 abbrev IfGoes : ℕ → Option Digits → Type 0

@@ -30,7 +30,7 @@ use Rattle.rt_json.proofs.Numbers.{number_ends}
 use Rattle.rt_json.proofs.Utf8.{Fills, is_a_scalar}
 use Rattle.rt_json.proofs.Hex.{hex_small, low_by, is_high_by, front_range, no_front}
 use Rattle.rt_json.proofs.Rest.{Behind, BehindValue, BehindItem, BehindMember, AtValue, AtName, AtColon, Outside, AtRest, BehindUnit, Unit0, Unit1, Unit2, Unit3, InText, BehindText, Rest, inside, left}
-use Rattle.rt_json.proofs.Tests.{order}
+use Rattle.rt_json.proofs.ByteTests.{order}
 
 -- digits that can still become a unit
 abbrev SoundInner : Inner → Type 0

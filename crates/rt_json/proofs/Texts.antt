@@ -11,7 +11,7 @@ use Rattle.rt_json.specs.declared.stop.Stop.{Stop}
 use Rattle.rt_json.proofs.Chars.{faults_behind}
 use Rattle.rt_json.proofs.Runs.{plain_stops, stop_byte}
 use Rattle.rt_json.proofs.Steps.{text_goes, text_breaks, text_closes, here}
-use Rattle.rt_json.proofs.Tests.{order}
+use Rattle.rt_json.proofs.ByteTests.{order}
 
 -- the text so far leads where the text before led
 abbrev pub Leads : List ℕ → ℕ → ℕ → List ℕ → List ℕ → Type 0

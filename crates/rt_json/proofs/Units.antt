@@ -15,7 +15,7 @@ use Rattle.rt_json.specs.declared.stop.Stop.TheVariants as stop
 use Rattle.rt_json.proofs.Steps.{text_goes, text_breaks, text_ends, text_closes}
 use Rattle.rt_json.proofs.Hex.{front_range, no_front, low_range, low_by, is_high_by}
 use Rattle.rt_json.proofs.Utf8.{is_a_scalar}
-use Rattle.rt_json.proofs.Tests.{order}
+use Rattle.rt_json.proofs.ByteTests.{order}
 
 -- what another byte than a digit breaks
 abbrev Refuses : Inner → Type 0

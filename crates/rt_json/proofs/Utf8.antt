@@ -6,7 +6,7 @@ use lib.Utf8.{scalar, scalar_cases, low_scalar, next, encode}
 use Rattle.rt_json.specs.Machine.{in_tail, lead}
 use Rattle.rt_json.specs.declared.bytes.Tail.{Tail}
 use Rattle.rt_json.specs.declared.bytes.Tail.TheVariants as tail
-use Rattle.rt_json.proofs.Tests.{both, order}
+use Rattle.rt_json.proofs.ByteTests.{both, order}
 
 two : (c : ℕ) → 128 ≤ c → c < 2048 → encode c ≡ (192 + c / 64) ∷ next c ∷ []
 unfolding encode
