@@ -1,5 +1,5 @@
 -- The catalogue of a text, and why a text has none.
-use Rattle.std.specs.Prelude.{◌≡◌, ◌≢◌, ℕ, ◌==◌, ◌≤◌, ◌<◌, Bool, true, List, [], ◌∷◌, map, length, count_by, slice_get, Option, Some, None, option_map, unwrap_or, Result, Ok, Err, IsUtf8}
+use Rattle.std.specs.Prelude.{◌≡◌, ℕ, ◌==◌, ◌≤◌, ◌<◌, List, map, length, count_by, slice_get, Some, option_map, unwrap_or, Ok, Err, IsUtf8}
 use Rattle.std.specs.List.{list_any, filter, range_with_len}
 use Rattle.std.specs.Str.Lossy.{utf8_valid_len}
 use Rattle.std.specs.Ordering.{nat_cmp}
@@ -18,7 +18,7 @@ use Rattle.rt_catalog.specs.declared.fault.Why.TheVariants as why
 use Rattle.rt_catalog.specs.declared.fault.CatalogFault.{CatalogFault}
 use Rattle.rt_catalog.specs.declared.fault.CatalogFault.TheVariants.{NoMemory, Refused}
 use Rattle.rt_catalog.specs.Grammar.{Placed, Written, MayGoOn}
-use Rattle.rt_catalog.specs.Lists.{Lists, TablePolicy}
+use Rattle.rt_catalog.specs.Lists.{Lists}
 use Rattle.rt_catalog.specs.Refusals.{lists_of, reaches}
 
 -- the text's tokens are the statements

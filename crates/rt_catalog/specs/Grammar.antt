@@ -1,6 +1,6 @@
 -- The grammar of the catalogue's statements (PostgreSQL, "SQL Commands": CREATE TABLE, CREATE ROLE, GRANT, ALTER TABLE, CREATE POLICY). Each
 -- phrase leads from tokens to tokens: xs is the phrase, read as the tree, and then ys.
-use Rattle.std.specs.Prelude.{◌≡◌, ◌⊎◌, ℕ, ◌-◌, Bool, true, false, ◌||◌, not, is_some, List, [], ◌∷◌, ◌++◌, codes, length, Option, Some, None}
+use Rattle.std.specs.Prelude.{◌≡◌, ℕ, ◌-◌, Bool, true, false, ◌||◌, not, is_some, List, [], ◌∷◌, ◌++◌, codes, length, Option, Some, None}
 use Rattle.rt_sql.specs.Lexeme.{Lexeme, IsName, IsKeyword, IsSign}
 use Rattle.rt_policy.specs.declared.expr.Expr.{Expr}
 use Rattle.rt_policy.specs.declared.expr.TypeName.{TypeName}
@@ -160,8 +160,8 @@ placed count xs s = record { at = count - length xs; statement = s }
 pub data Statements (count : ℕ) : List Placed → List Placed → List Lexeme → Type 0 where
   file_end : {all : List Placed} → Statements count all all []
   file_more : {before all : List Placed} {s : Statement} {semicolon : Lexeme} {xs ys : List Lexeme}
-    → IsStatement s xs (semicolon ∷ ys) → may_end s ≡ true → IsSign (codes ";") semicolon
-    → Statements count (before ++ placed count xs s ∷ []) all ys → Statements count before all xs
+      → IsStatement s xs (semicolon ∷ ys) → may_end s ≡ true → IsSign (codes ";") semicolon
+      → Statements count (before ++ placed count xs s ∷ []) all ys → Statements count before all xs
 
 -- the tokens are the file
 abbrev pub Written : List Placed → List Lexeme → Type 0
@@ -172,8 +172,8 @@ pub data Begun (count : ℕ) : List Placed → List Placed → List Lexeme → T
   begun_end : {all : List Placed} → Begun count all all []
   begun_last : {before : List Placed} {s : Statement} {xs : List Lexeme} → IsStatement s xs [] → Begun count before (before ++ placed count xs s ∷ []) xs
   begun_more : {before all : List Placed} {s : Statement} {semicolon : Lexeme} {xs ys : List Lexeme}
-    → IsStatement s xs (semicolon ∷ ys) → may_end s ≡ true → IsSign (codes ";") semicolon
-    → Begun count (before ++ placed count xs s ∷ []) all ys → Begun count before all xs
+      → IsStatement s xs (semicolon ∷ ys) → may_end s ≡ true → IsSign (codes ";") semicolon
+      → Begun count (before ++ placed count xs s ∷ []) all ys → Begun count before all xs
 
 -- what the tokens that can go on are a front of
 abbrev pub MayGoOn : List Placed → List Lexeme → Type 0

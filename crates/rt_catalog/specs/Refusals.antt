@@ -7,7 +7,6 @@ use Rattle.rt_value.specs.declared.value.Kind.{Kind}
 use Rattle.rt_value.specs.declared.value.Kind.TheVariants.{Opaque}
 use Rattle.rt_value.specs.Choice.{is_at}
 use Rattle.rt_policy.specs.declared.judge.Judge.{Judge}
-use Rattle.rt_policy.specs.declared.expr.Expr.{Expr}
 use Rattle.rt_policy.specs.declared.fault.ExprFault.{ExprFault}
 use Rattle.rt_policy.specs.declared.fault.ExprFault.TheVariants as fault
 use Rattle.rt_policy.specs.Resolution.{resolved}

@@ -1,5 +1,5 @@
 -- How a refusal of a catalogue is shown.
-use Rattle.std.specs.Prelude.{ℕ, ◌==◌, ◌+◌, ◌-◌, List, ◌++◌, codes, count_by, length, take, reverse, true, false, [], ◌∷◌}
+use Rattle.std.specs.Prelude.{ℕ, ◌==◌, ◌+◌, List, ◌++◌, codes, count_by, take, reverse, true, false, [], ◌∷◌}
 use Rattle.std.specs.Fmt.{decimal}
 use Rattle.rt_catalog.specs.declared.fault.Why.{Why}
 use Rattle.rt_catalog.specs.declared.fault.Why.TheVariants as why

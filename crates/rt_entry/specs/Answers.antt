@@ -1,5 +1,5 @@
 -- What each slot gets of an input, and what a lane is owed.
-use Rattle.std.specs.Prelude.{◌≡◌, ℕ, ◌==◌, ◌%◌, Bool, if◌then◌else◌, List, [], ◌∷◌, ◌++◌, map, length, Option, Some, None}
+use Rattle.std.specs.Prelude.{◌≡◌, ℕ, ◌==◌, ◌%◌, Bool, if◌then◌else◌, List, [], ◌∷◌, ◌++◌, map, Option, Some, None}
 use Rattle.std.specs.List.{filter, filter_map, flat_map}
 use Rattle.rt_value.specs.declared.row.Row.{Row}
 use Rattle.rt_phx.specs.declared.message.Version.{Version}

@@ -1,10 +1,9 @@
 -- What each input does, by cases, ask_parts of all that stands before it (the Realtime protocol, "Channels", "Broadcast", "Presence", "Postgres Changes").
-use Rattle.std.specs.Prelude.{ℕ, ◌==◌, ◌+◌, nat_lt, nat_le, Bool, true, false, ◌&&◌, ◌||◌, not, if◌then◌else◌, List, [], ◌∷◌, ◌++◌, map, length, codes, find, slice_get, Option, Some, None, option_map, option_to_list, Ok, Err}
-use Rattle.std.specs.List.{list_any, filter, filter_map, flat_map, enumerate_from}
+use Rattle.std.specs.Prelude.{ℕ, ◌==◌, ◌+◌, nat_lt, nat_le, Bool, true, false, ◌&&◌, not, if◌then◌else◌, List, [], ◌∷◌, ◌++◌, map, length, codes, find, slice_get, Option, Some, None, option_to_list, Ok, Err}
+use Rattle.std.specs.List.{filter, flat_map, enumerate_from}
 use Rattle.std.specs.Str.{bytes_eq}
 use Rattle.rt_value.specs.declared.claims.Claims.{Claims}
 use Rattle.rt_value.specs.declared.row.Row.{Row}
-use Rattle.rt_value.specs.Choice.{◌>>=◌}
 use Rattle.rt_value.specs.Tables.{rows_of_table}
 use Rattle.rt_json.specs.declared.tree.Json.{Json}
 use Rattle.rt_token.specs.Asked.{seconds_of}

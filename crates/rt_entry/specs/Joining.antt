@@ -1,13 +1,12 @@
 -- Whether a join or a renewal is accepted, and what it makes of the channel; or the first reason against it (the Realtime protocol, "Joining a
 -- channel"; the reasons' texts are this project's).
-use Rattle.std.specs.Prelude.{ℕ, ◌+◌, nat_lt, Bool, true, false, not, List, [], ◌∷◌, ◌++◌, map, length, codes, Option, Some, None, Result, Ok, Err}
+use Rattle.std.specs.Prelude.{ℕ, ◌+◌, nat_lt, Bool, true, false, not, List, [], ◌++◌, map, codes, Option, Some, None, Result, Ok, Err}
 use Rattle.std.specs.Fmt.{decimal}
 use Rattle.std.specs.Str.{bytes_eq}
 use Rattle.rt_value.specs.declared.claims.Claims.{Claims}
 use Rattle.rt_json.specs.declared.tree.Json.{Json}
 use Rattle.rt_json.specs.Lookup.{member_of}
 use Rattle.rt_json.specs.Trees.{is_null}
-use Rattle.rt_token.specs.declared.fault.TokenFault.{TokenFault}
 use Rattle.rt_token.specs.Asked.{claims_asked, seconds_of, fault_text}
 use Rattle.rt_phx.specs.declared.message.Message.{Message}
 use Rattle.rt_phx.specs.Joins.{Asked, config_of}

@@ -1,6 +1,6 @@
 -- The presence that a client holds (the Realtime protocol, "Presence"): the metas of a state, then of each difference its joins added and its
 -- leaves removed by `phx_ref`.
-use Rattle.std.specs.Prelude.{◌≡◌, ℕ, ◌==◌, nat_le, Bool, true, false, not, ◌&&◌, List, [], ◌∷◌, ◌++◌, map, length, codes, Option, Some, None, unwrap_or, IsPermutation, Contains}
+use Rattle.std.specs.Prelude.{◌≡◌, ℕ, ◌==◌, nat_le, Bool, true, false, not, ◌&&◌, List, [], ◌∷◌, ◌++◌, map, length, codes, Option, Some, None, count_by, unwrap_or, IsPermutation, Contains}
 use Rattle.std.specs.List.{filter, filter_map, flat_map, list_any}
 use Rattle.std.specs.Str.{bytes_eq}
 use Rattle.rt_value.specs.Choice.{◌>>=◌, first_case}
@@ -9,18 +9,24 @@ use Rattle.rt_json.specs.declared.tree.named.Member.{Member}
 use Rattle.rt_json.specs.Lookup.{member_of, members_of}
 use Rattle.rt_json.specs.Trees.{text_of, list_of}
 use Rattle.rt_phx.specs.declared.message.Message.{Message}
-use Rattle.rt_phx.specs.Frame.{no_members}
+use Rattle.rt_phx.specs.declared.message.Version.{Version}
+use Rattle.rt_phx.specs.Frame.{no_members, message_of}
 use Rattle.rt_catalog.specs.declared.catalog.Catalog.{Catalog}
 use Rattle.rt_entry.specs.declared.input.Input.{Input}
 use Rattle.rt_entry.specs.declared.input.Settings.{Settings}
+use Rattle.rt_entry.specs.declared.input.Step.{Step}
+use Rattle.rt_entry.specs.declared.story.Opening.{Opening}
+use Rattle.rt_entry.specs.declared.answer.Item.{Item}
+use Rattle.rt_entry.specs.declared.answer.Item.TheVariants.{Message as Said, End}
 use Rattle.rt_entry.specs.declared.story.Channel.{Channel}
 use Rattle.rt_entry.specs.declared.story.Track.{Track}
 use Rattle.rt_entry.specs.declared.answer.Answer.{Answer}
 use Rattle.rt_entry.specs.declared.answer.Answer.TheVariants.{Opened, Says, Ended}
-use Rattle.rt_entry.specs.Story.{members_at, present_at}
+use Rattle.rt_entry.specs.Story.{opening_at, members_at, present_at}
 use Rattle.rt_entry.specs.Messages.{meta_tree}
-use Rattle.rt_entry.specs.Doings.{story, is_on}
-use Rattle.rt_entry.specs.Answers.{answers}
+use Rattle.rt_entry.specs.Doings.{story}
+use Rattle.rt_entry.specs.Answers.{answers, due}
+use Rattle.rt_entry.specs.Machine.{World, is_message, is_cut, start, run}
 
 -- a key and a meta under it
 abbrev pub Held : Type 0
@@ -81,3 +87,37 @@ module _ (c : Catalog) (s : Settings) where
   ClientsAgree journal =
       (ch : Channel) → Contains (members_at (story c s journal)) ch → ch.presence ≡ true
       → IsPermutation (client_view [] (told_since ch journal)) (map shown_meta (present_on journal ch.topic))
+
+-- The same of what a slot was given. A client reads the items behind the last terminator.
+abbrev pub end_count : List Item → ℕ
+end_count items = count_by (λ x. not (is_message x)) items
+
+abbrev pub last_items : List Item → List Item
+last_items [] = []
+last_items (End name ∷ more) = last_items more
+last_items (Said bytes ∷ more) = elim (end_count more == 0) [ true ↦ Said bytes ∷ more | false ↦ last_items more ]
+
+abbrev pub message_in : Version → Item → Option Message
+message_in version (Said bytes) = message_of version bytes
+message_in version (End name) = None
+
+abbrev pub messages_on : Version → List ℕ → List Item → List Message
+messages_on version topic items = filter (λ m. bytes_eq m.topic topic) (filter_map (message_in version) items)
+
+module _ (c : Catalog) (s : Settings) where
+  -- The slot has a member with presence in an opening that isn't cut, and of that opening it was given exactly what is due by the inputs so far.
+  pub record IsUpTo (w : World) (before : List Input) (ch : Channel) (o : Opening) : Type 0 where
+    pub member : Contains (members_at (story c s before)) ch
+    pub enabled : ch.presence ≡ true
+    pub opening : opening_at (story c s before) ch.slot ≡ Some o
+    pub uncut : is_cut (w.slots ch.slot).cuts (end_count (due c s before ch.slot)) ≡ false
+    pub as_many : end_count (w.slots ch.slot).given ≡ end_count (due c s before ch.slot)
+    pub items : last_items (w.slots ch.slot).given ≡ last_items (due c s before ch.slot)
+
+  -- then its client holds what is present
+  abbrev pub GivenClientsAgree : Type 0
+  GivenClientsAgree =
+      (steps : List Step) (later before : List Input) (ch : Channel) (o : Opening)
+      → (run c s steps start).journal ≡ later ++ before → IsUpTo (run c s steps start) before ch o
+      → IsPermutation (client_view [] (messages_on o.version ch.topic (last_items ((run c s steps start).slots ch.slot).given)))
+      (map shown_meta (present_on c s before ch.topic))

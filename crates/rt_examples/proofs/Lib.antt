@@ -1,6 +1,8 @@
 mod CutsComputed
 mod DeletesComputed
+mod ErrorsComputed
 mod ExpiryComputed
+mod FramesComputed
 mod IdentitiesComputed
 mod NotesComputed
 mod OwnersComputed
@@ -8,4 +10,6 @@ mod Polls
 mod RenewalComputed
 mod RestrictiveComputed
 mod RoomsComputed
+mod StatementsComputed
 mod TracksComputed
+mod VectorsComputed

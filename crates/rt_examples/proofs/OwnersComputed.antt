@@ -1,5 +1,5 @@
 -- Computed but for what the policy is of the row, which goes by its folds.
-use Rattle.std.proofs.Common.{◌≡◌, ℕ, List, [], ◌∷◌, ◌||◌, not, true, false, refl, ap, ap₂, ◌∙◌, Bool}
+use Rattle.std.proofs.Common.{◌≡◌, ℕ, List, [], ◌∷◌, ◌||◌, not, false, refl, ap, ap₂, ◌∙◌, Bool}
 use Rattle.std.specs.Prelude.{pos, if◌then◌else◌}
 use Rattle.std.specs.List.{flat_map}
 use Rattle.rt_value.specs.declared.value.Value.TheVariants as value
@@ -16,7 +16,7 @@ use Rattle.rt_entry.specs.Doings.{story}
 use Rattle.rt_entry.specs.Story.{tables_left}
 use Rattle.rt_examples.specs.Computes.{computes}
 use Rattle.rt_examples.specs.Notes.{settings}
-use Rattle.rt_examples.specs.Policies.{own, owns, own_is}
+use Rattle.rt_examples.specs.Policies.{owns, own_is}
 use Rattle.rt_examples.specs.Owners.{OwnersAreJudged, docs, owner_rules, user, one, before, changes}
 
 abbrev who : ℕ → Who

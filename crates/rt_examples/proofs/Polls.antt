@@ -1,5 +1,5 @@
 -- A poll tells, and does nothing else: who is a member after it, and with which claims, is as before.
-use Rattle.std.proofs.Common.{◌≡◌, ℕ, List, [], ◌∷◌, ◌++◌, map, reverse, not, true, false, refl, ap, ap₂, ◌∙◌}
+use Rattle.std.proofs.Common.{◌≡◌, ℕ, List, [], ◌∷◌, ◌++◌, map, reverse, not, true, false, refl, ap, ap₂}
 use Rattle.std.specs.List.{filter, filter_map, flat_map}
 use Rattle.rt_value.specs.declared.row.Row.{Row}
 use Rattle.rt_filter.specs.declared.subscription.Subscription.{Subscription}
@@ -12,9 +12,9 @@ use Rattle.rt_entry.specs.declared.input.Settings.{Settings}
 use Rattle.rt_entry.specs.declared.story.Channel.{Channel}
 use Rattle.rt_entry.specs.declared.story.Member.{Member}
 use Rattle.rt_entry.specs.declared.story.Part.{Part}
-use Rattle.rt_entry.specs.declared.story.Part.TheVariants.{Opens, Ends, Tells, Joins, Renews, Tracks, Untracks, Departs}
+use Rattle.rt_entry.specs.declared.story.Part.TheVariants.{Tells}
 use Rattle.rt_entry.specs.declared.entry.ChannelView.{ChannelView}
-use Rattle.rt_entry.specs.Story.{Story, Line, Standing, joined_by, departed_by, departed_in, renewed_by, has, first_or, standing_of, joined, departed, members_at, claims_at, member_in, now_of, tables_left}
+use Rattle.rt_entry.specs.Story.{Story, Line, Standing, joined_by, departed_in, renewed_by, has, first_or, standing_of, joined, departed, members_at, claims_at, member_in, now_of, tables_left}
 use Rattle.rt_entry.specs.Doings.{change_parts, change_parts_to, change_parts_to_all, poll_parts, gets, doings, story, subscriptions, view_of}
 
 abbrev TellsOnly : List Part → Type 0

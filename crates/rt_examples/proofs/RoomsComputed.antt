@@ -1,6 +1,6 @@
 -- Computed but for what the policies are of the rows, which goes by their folds.
-use Rattle.std.proofs.Common.{◌≡◌, ℕ, List, [], ◌∷◌, ◌++◌, ◌||◌, ◌&&◌, not, true, false, refl, ap, ap₂, ◌∙◌, Bool}
-use Rattle.std.specs.Prelude.{if◌then◌else◌, codes, None}
+use Rattle.std.proofs.Common.{◌≡◌, ℕ, List, [], ◌∷◌, ◌++◌, ◌||◌, ◌&&◌, not, true, false, refl, ap, ◌∙◌, Bool}
+use Rattle.std.specs.Prelude.{if◌then◌else◌, codes}
 use Rattle.std.specs.List.{flat_map}
 use Rattle.rt_value.specs.declared.value.Value.TheVariants as value
 use Rattle.rt_value.specs.declared.row.Row.{Row}
@@ -20,7 +20,7 @@ use Rattle.rt_entry.specs.Story.{now_of, tables_left}
 use Rattle.rt_examples.proofs.Polls.{members_after_poll}
 use Rattle.rt_examples.specs.Computes.{computes}
 use Rattle.rt_examples.specs.Notes.{settings}
-use Rattle.rt_examples.specs.Policies.{own, is_shared, own_is, is_shared_is, owns, joins}
+use Rattle.rt_examples.specs.Policies.{is_shared, own_is, is_shared_is, owns}
 use Rattle.rt_examples.specs.Rooms.{MembersSeeRooms, rooms, room_rules, room_key, member_key, user, of_role, joined, made, left, gone}
 
 abbrev who : ℕ → Who

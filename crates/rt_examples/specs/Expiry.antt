@@ -1,5 +1,5 @@
 -- Claims that run out at a tick, and a slot that is idle at the next.
-use Rattle.std.specs.Prelude.{◌≡◌, ℕ, List, [], ◌∷◌, ◌++◌, codes, Some}
+use Rattle.std.specs.Prelude.{◌≡◌, ℕ, List, [], ◌∷◌, codes, Some}
 use Rattle.rt_value.specs.declared.claims.Claims.{Claims}
 use Rattle.rt_phx.specs.declared.message.Version.TheVariants.{V1}
 use Rattle.rt_phx.specs.declared.end.EndName.TheVariants.{Idle}

@@ -1,5 +1,5 @@
 -- One level of a judge at a time: what a fold over it is.
-use Rattle.std.proofs.Common.{◌≡◌, ℕ, List, sym, ap, ◌∙◌}
+use Rattle.std.proofs.Common.{◌≡◌, ℕ, sym, ap, ◌∙◌}
 use Rattle.rt_value.specs.declared.value.Value.{Value}
 use Rattle.rt_policy.specs.declared.judge.Comparison.{Comparison}
 use Rattle.rt_policy.specs.declared.judge.Judge.{Judge}

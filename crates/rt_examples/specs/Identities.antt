@@ -1,6 +1,6 @@
 -- An update whose columns give the key alone: a column that only the identity gives is the record's from there, and where nothing gives it the
 -- table's row keeps it. It is judged on that row.
-use Rattle.std.specs.Prelude.{◌≡◌, ℕ, List, [], ◌∷◌, ◌++◌, ◌&&◌, true, false, nat_le, codes, Option, Some, None, pos, Ok}
+use Rattle.std.specs.Prelude.{◌≡◌, ℕ, List, [], ◌∷◌, ◌++◌, ◌&&◌, true, false, nat_le, codes, Some, None, pos, Ok}
 use Rattle.std.proofs.Common.{lit<, ap}
 use Rattle.rt_value.specs.declared.value.Value.TheVariants as value
 use Rattle.rt_value.specs.declared.row.Key.{Key}

@@ -1,8 +1,10 @@
 pub mod Computes
 pub mod Cuts
 pub mod Deletes
+pub mod Errors
 pub mod Expiry
 pub mod Folds
+pub mod Frames
 pub mod Identities
 pub mod Notes
 pub mod Owners
@@ -10,4 +12,6 @@ pub mod Policies
 pub mod Renewal
 pub mod Restrictive
 pub mod Rooms
+pub mod Statements
 pub mod Tracks
+pub mod Vectors

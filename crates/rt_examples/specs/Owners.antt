@@ -1,6 +1,6 @@
 -- Rows that their owners see: two changes of one row in a poll are both judged on the row as the poll leaves it.
 use Rattle.std.specs.Prelude.{◌≡◌, ℕ, List, [], ◌∷◌, ◌&&◌, true, false, nat_le, codes, Option, Some, None, pos}
-use Rattle.std.proofs.Common.{refl, lit<, ap}
+use Rattle.std.proofs.Common.{lit<, ap}
 use Rattle.rt_value.specs.declared.value.Value.TheVariants as value
 use Rattle.rt_value.specs.declared.value.Kind.TheVariants as kind
 use Rattle.rt_value.specs.declared.row.Key.{Key}

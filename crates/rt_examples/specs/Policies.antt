@@ -1,7 +1,7 @@
 -- The policies of the examples: what each is of a row.
-use Rattle.std.proofs.Common.{◌≡◌, ℕ, List, [], ◌∷◌, Bool, true, false, ◌&&◌, ◌||◌, not, sym, ap, ◌∙◌, refl, max, suc}
+use Rattle.std.proofs.Common.{◌≡◌, ℕ, List, Bool, true, ◌&&◌, ap, ◌∙◌, max, suc}
 use Rattle.std.proofs.Math.Nat.{max-zero as max_zero}
-use Rattle.std.specs.Prelude.{nat_le, codes, if◌then◌else◌, Option, Some, None}
+use Rattle.std.specs.Prelude.{codes, None}
 use Rattle.std.specs.List.{list_any}
 use Rattle.rt_value.specs.declared.value.Value.{Value}
 use Rattle.rt_value.specs.declared.value.Value.TheVariants as value
@@ -9,7 +9,6 @@ use Rattle.rt_value.specs.declared.row.Row.{Row}
 use Rattle.rt_policy.specs.declared.judge.Comparison.TheVariants.{Equal}
 use Rattle.rt_policy.specs.declared.judge.Judge.{Judge}
 use Rattle.rt_policy.specs.declared.judge.Judge.TheVariants as judge
-use Rattle.rt_policy.specs.declared.judge.Truth.{Truth}
 use Rattle.rt_policy.specs.declared.tables.TableRules.{TableRules}
 use Rattle.rt_policy.specs.Ranks.{reach, reach_step, rank_of}
 use Rattle.rt_policy.specs.Truth.{truth_in, is_true, worth_of_truth, compared, cell_at, cell_of}

@@ -1,5 +1,5 @@
 -- A permissive policy that is true of every row, and a restrictive one that isn't true: the caller has no uuid, so a comparison with it is unknown.
-use Rattle.std.specs.Prelude.{◌≡◌, ℕ, List, [], ◌∷◌, ◌&&◌, true, false, nat_le, codes, Some, None}
+use Rattle.std.specs.Prelude.{◌≡◌, List, [], ◌∷◌, ◌&&◌, true, false, nat_le, codes, Some, None}
 use Rattle.std.proofs.Common.{lit<, ap, ◌∙◌}
 use Rattle.rt_phx.specs.declared.message.Version.TheVariants.{V1}
 use Rattle.rt_policy.specs.declared.tables.TableRules.{TableRules}

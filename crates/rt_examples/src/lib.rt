@@ -1,6 +1,10 @@
 //! Worked examples: what the definitions say of small runs, each computed by the prover.
 #![tactic(auto)]
 
+ghost use Rattle.rt_examples.specs.Statements.{StatementsMeanLists, OpaqueKeyIsRefused, SecondRoleIsRefused, PublicIsNoRole, UnknownColumnIsRefused};
+ghost use Rattle.rt_examples.specs.Vectors.{TagIsKnown, TokenHasNoRole, TokenExpires, UnsignedIsRefused, TwoPartsAreNoToken};
+ghost use Rattle.rt_examples.specs.Frames.{FramesAreAnswered, JoinsAreRefused};
+ghost use Rattle.rt_examples.specs.Errors.{ErrorsAreSent, HiddenKeyIsAnError};
 ghost use Rattle.rt_examples.specs.Deletes.{DeletesShowTheKey};
 ghost use Rattle.rt_examples.specs.Restrictive.{RestrictiveRefuses};
 ghost use Rattle.rt_examples.specs.Rooms.{MembersSeeRooms};
@@ -66,4 +70,34 @@ pub fn identities()
     ensures bound_alone { NoIdentityIsBound }
     ensures shown { IdentityIsShown }
     ensures kept { RowIsKept }
+{}
+
+/// Errors of a record, by what it lacks, what the role may not SELECT, and its size.
+pub fn errors()
+    ensures sent { ErrorsAreSent }
+    ensures hidden_key { HiddenKeyIsAnError }
+{}
+
+/// Frames of version 2, and joins that are refused.
+pub fn frames()
+    ensures answered { FramesAreAnswered }
+    ensures refused { JoinsAreRefused }
+{}
+
+/// Vectors of HMAC and of tokens from outside.
+pub fn vectors()
+    ensures tag { TagIsKnown }
+    ensures role { TokenHasNoRole }
+    ensures expires { TokenExpires }
+    ensures unsigned { UnsignedIsRefused }
+    ensures parts { TwoPartsAreNoToken }
+{}
+
+/// What statements mean, and statements that are refused.
+pub fn statements()
+    ensures lists { StatementsMeanLists }
+    ensures opaque_key { OpaqueKeyIsRefused }
+    ensures second_role { SecondRoleIsRefused }
+    ensures public_role { PublicIsNoRole }
+    ensures unknown_column { UnknownColumnIsRefused }
 {}

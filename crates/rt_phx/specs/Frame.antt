@@ -1,7 +1,7 @@
 -- The message of a frame, and the one spelling of a message, in both versions (the Realtime protocol, "Messages").
 use Rattle.std.specs.Prelude.{◌≡◌, ℕ, ◌≤◌, nat_le, List, [], ◌∷◌, codes, length, Option, Some, None, unwrap_or}
 use Rattle.rt_value.specs.Choice.{◌>>=◌, some_if}
-use Rattle.rt_json.specs.declared.tree.Json.{Json, Null, Num, Text, Row_of-Json, end_of-Json, more_of-Json}
+use Rattle.rt_json.specs.declared.tree.Json.{Json, Null, Num, Text}
 use Rattle.rt_json.specs.declared.tree.Json.TheVariants as j
 use Rattle.rt_json.specs.Grammar.{IsJson}
 use Rattle.rt_json.specs.Lookup.{member_of}

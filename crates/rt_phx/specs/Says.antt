@@ -1,6 +1,6 @@
 -- The messages that the server says, by their forms (the Realtime protocol, "Channels"). A reply answers a frame; every other message of a
 -- channel has the channel's join_ref, and ref null.
-use Rattle.std.specs.Prelude.{ℕ, List, [], ◌∷◌, ◌++◌, map, codes}
+use Rattle.std.specs.Prelude.{ℕ, List, [], ◌∷◌, map, codes}
 use Rattle.std.specs.Fmt.{decimal}
 use Rattle.rt_json.specs.declared.tree.Json.{Json, Null, Num, Text}
 use Rattle.rt_json.specs.declared.tree.Json.TheVariants as j

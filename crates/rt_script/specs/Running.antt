@@ -1,5 +1,5 @@
 -- The run of a script in its schedule, and what is printed of it.
-use Rattle.std.specs.Prelude.{◌≡◌, ℕ, Bool, true, false, not, ◌&&◌, List, [], ◌∷◌, ◌++◌, map, codes}
+use Rattle.std.specs.Prelude.{◌≡◌, ℕ, Bool, true, false, not, List, [], ◌∷◌, ◌++◌, map, codes}
 use Rattle.std.specs.Fmt.{decimal}
 use Rattle.std.specs.List.{flat_map, list_any, range_with_len}
 use Rattle.rt_phx.specs.Says.{end_text}
@@ -12,7 +12,7 @@ use Rattle.rt_entry.specs.declared.input.Step.TheVariants.{Arrive, Feed, Take, T
 use Rattle.rt_entry.specs.declared.answer.Item.{Item}
 use Rattle.rt_entry.specs.declared.answer.Item.TheVariants.{Message, End}
 use Rattle.rt_entry.specs.Story.{every_slot}
-use Rattle.rt_entry.specs.Machine.{World, Outcome, done, empty, full, spent, rows_full, start, step_of, run}
+use Rattle.rt_entry.specs.Machine.{World, Outcome, done, spent, rows_full, start, step_of, run}
 use Rattle.rt_script.specs.declared.script.Act.{Act}
 use Rattle.rt_script.specs.declared.script.Act.TheVariants.{One, Drain}
 use Rattle.rt_script.specs.declared.script.Line.{Line}

@@ -1,5 +1,5 @@
 -- HMAC-SHA-256 (RFC 2104 over the hash of FIPS 180-4).
-use Rattle.std.specs.Prelude.{ℕ, ◌-◌, List, ◌++◌, length, map, replicate, bit_xor, if◌then◌else◌, nat_le, true, false}
+use Rattle.std.specs.Prelude.{ℕ, ◌-◌, List, ◌++◌, length, map, replicate, bit_xor, nat_le, true, false}
 use Rattle.sha2.specs.Sha256.{sha256}
 
 -- a key longer than a block is hashed first

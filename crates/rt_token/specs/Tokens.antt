@@ -1,5 +1,5 @@
 -- The claims of a token at a second, or the first reason why it has none (RFC 7515, "JWS Compact Serialization"; RFC 7519, "Validating a JWT").
-use Rattle.std.specs.Prelude.{ℕ, ◌==◌, Bool, true, false, not, List, [], ◌∷◌, ◌++◌, codes, Option, Some, None, unwrap_or, Result, Ok, Err}
+use Rattle.std.specs.Prelude.{ℕ, ◌==◌, Bool, true, false, not, List, [], ◌∷◌, ◌++◌, codes, Option, Some, None, unwrap_or, Result, Ok}
 use Rattle.std.specs.Str.{bytes_eq}
 use Rattle.base64.specs.Engines.{url_safe_no_pad}
 use Rattle.base64.specs.GeneralPurpose.{decoded_of, encode_of}

@@ -1,10 +1,8 @@
-use Rattle.std.proofs.Common.{◌≡◌, ◌+◌, ◌∙◌, List, Some, length, flat_map, is_some, if◌then◌else◌, sym, subst}
+use Rattle.std.proofs.Common.{◌≡◌, ◌+◌, length, is_some, if◌then◌else◌, subst}
 use Rattle.std.specs.Arc.{arc_value}
-use Rattle.std.proofs.lemmas.Result.{IfOk-weaker}
-use Rattle.rt_ptree.specs.Entries.{Updates, value_at}
-use Rattle.rt_ptree.specs.Parts.{branch_list}
+use Rattle.rt_ptree.specs.Entries.{value_at}
 use Rattle.rt_ptree.proofs.Order.{IsRising-insert, length-insert}
-use Rattle.rt_ptree.proofs.Updates.{Updates-insert}
+use Rattle.rt_ptree.proofs.Updates.{Updates-insert, Updates-from_equal}
 use Rattle.rt_ptree.proofs.tree.Tree.with_entry.Goals as goal
 
 pub from_branches-requires-clause-rising : goal.from_branches-requires-clause-rising
@@ -20,6 +18,5 @@ from_branches-requires-clause-counted g c =
 
 pub returns-clause-updates : goal.returns-clause-updates
 returns-clause-updates g c =
-    let updates = λ (es : List (g.row.K.Denot × g.row.V.Denot)). Updates g.K.Ord.cmp c.args.self.now es (arc_value c.args.key.now) (Some (arc_value c.args.value.now)) in
     let found = Updates-insert g.met.K.Ord.total (arc_value c.args.key.now) (arc_value c.args.value.now) c.args.self.now in
-    IfOk-weaker _ (λ t. t ≡ flat_map branch_list c.in_ok-branches.branches.items) updates (λ t same. subst updates (sym (same ∙ c.in_ok-branches.ensures.entries)) found) c.from_branches.ensures
+    Updates-from_equal _ _ _ _ _ _ c.from_branches.result c.from_branches.ensures c.in_ok-branches.ensures.entries found

@@ -1,9 +1,6 @@
-use Rattle.std.proofs.Common.{◌≡◌, ◌∙◌, List, None, flat_map, sym, subst, arith}
-use Rattle.std.proofs.lemmas.Result.{IfOk-weaker}
-use Rattle.rt_ptree.specs.Entries.{Updates}
-use Rattle.rt_ptree.specs.Parts.{branch_list}
+use Rattle.std.proofs.Common.{arith}
 use Rattle.rt_ptree.proofs.Order.{IsRising-without, length-without}
-use Rattle.rt_ptree.proofs.Updates.{Updates-without}
+use Rattle.rt_ptree.proofs.Updates.{Updates-without, Updates-from_equal}
 use Rattle.rt_ptree.proofs.tree.Tree.without.Goals as goal
 
 pub from_branches-requires-clause-rising : goal.from_branches-requires-clause-rising
@@ -19,6 +16,5 @@ from_branches-requires-clause-counted g c =
 
 pub returns-clause-updates : goal.returns-clause-updates
 returns-clause-updates g c =
-    let updates = λ (es : List (g.row.K.Denot × g.row.V.Denot)). Updates g.K.Ord.cmp c.args.self.now es c.args.key.now None in
     let found = Updates-without g.met.K.Ord.total c.args.key.now c.args.self.now c.len.ensures.rising in
-    IfOk-weaker _ (λ t. t ≡ flat_map branch_list c.in_ok-branches.branches.items) updates (λ t same. subst updates (sym (same ∙ c.in_ok-branches.ensures.entries)) found) c.from_branches.ensures
+    Updates-from_equal _ _ _ _ _ _ c.from_branches.result c.from_branches.ensures c.in_ok-branches.ensures.entries found
