@@ -1,5 +1,5 @@
 -- What an expression is at a row, for who asks. Which rows an EXISTS may read is a parameter, the view.
-use Rattle.std.specs.Prelude.{ℕ, Bool, ◌&&◌, if◌then◌else◌, List, [], ◌∷◌, map, Option, Some, None}
+use Rattle.std.specs.Prelude.{◌≡◌, ℕ, Bool, ◌&&◌, if◌then◌else◌, List, [], ◌∷◌, map, Option, Some, None}
 use Rattle.std.specs.List.{list_any}
 use Rattle.rt_value.specs.declared.value.Value.{Value}
 use Rattle.rt_value.specs.declared.value.Value.TheVariants as value
@@ -9,7 +9,8 @@ use Rattle.rt_value.specs.declared.claims.Claims.{Claims}
 use Rattle.std.specs.Str.{bytes_eq}
 use Rattle.rt_policy.specs.declared.judge.Judge.{Judge}
 use Rattle.rt_policy.specs.declared.judge.Judge.TheOpen.{Judge-F}
-use Rattle.rt_policy.specs.declared.judge.Judge.TheFolds.{fold-Judge}
+use Rattle.rt_policy.specs.declared.judge.Judge.TheViews.{roll-Judge}
+use Rattle.rt_policy.specs.declared.judge.Judge.TheFolds.{fold-Judge, map-Judge}
 use Rattle.rt_policy.specs.declared.judge.Truth.{Truth}
 use Rattle.rt_policy.specs.declared.caller.Caller.{Caller}
 use Rattle.rt_policy.specs.Truth.{truth_in, worth_of_truth, is_true, not_of, all_of, any_of, compared, one_of, is_tested, cell_at, cell_of}
@@ -70,6 +71,10 @@ worth_step who view (Judge-F.Exists table condition) at = value.Bool (list_any (
 -- the value of an expression at a place
 abbrev pub worth : Who → View → Judge → Place → Value
 worth who view = fold-Judge (Place → Value) (worth_step who view)
+
+-- each expression has the value that its form gives from the values of its parts
+abbrev pub IsWorth : Who → View → (Judge → Place → Value) → Type 0
+IsWorth who view value = (form : Judge-F Judge) (at : Place) → value (roll-Judge form) at ≡ worth_step who view (map-Judge Judge (Place → Value) value form) at
 
 -- the truth of an expression that is asked of a row
 abbrev pub truth : Who → View → Judge → Row → Truth

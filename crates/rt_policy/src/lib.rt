@@ -3,14 +3,23 @@
 #![tactic(auto)]
 
 mod caller;
+mod claims;
+mod evaluation;
 mod expr;
 mod fault;
 mod judge;
+pub mod laws;
+mod lent;
+mod logic;
+mod ranking;
 mod rules;
 mod scope;
 mod tables;
+#[cfg(test)]
+mod tests;
 
 pub use caller::{Caller, Seen};
+pub use evaluation::{holds, sees};
 pub use expr::{Expr, Literal, Selected, TypeName};
 pub use fault::ExprFault;
 pub use judge::{Comparison, Judge, Tested, Truth};

@@ -1,0 +1,13 @@
+-- The value that is lent.
+use Rattle.rt_value.specs.declared.value.Value.{Value}
+use Rattle.rt_value.specs.declared.value.Value.TheVariants as value
+use Rattle.rt_policy.specs.declared.lent.LentValue.{LentValue}
+use Rattle.rt_policy.specs.declared.lent.LentValue.TheVariants as lent
+
+abbrev pub value_of : LentValue → Value
+value_of lent.Null = value.Null
+value_of (lent.Int n) = value.Int n
+value_of (lent.Text t) = value.Text t.now
+value_of (lent.Bool b) = value.Bool b
+value_of (lent.Uuid n) = value.Uuid n
+value_of lent.Opaque = value.Opaque

@@ -1,0 +1,27 @@
+//! Laws of the definitions, for the proofs of the crates above. Each is a function with an empty body.
+
+ghost use Rattle.std.specs.Prelude.{◌≡◌, ℕ, List};
+ghost use Rattle.rt_value.specs.declared.row.Row.{Row};
+ghost use Rattle.rt_policy.specs.declared.caller.Seen.{Seen};
+ghost use Rattle.rt_policy.specs.declared.judge.Judge.{Judge};
+ghost use Rattle.rt_value.specs.declared.value.Value.{Value};
+ghost use Rattle.rt_policy.specs.Worth.{Who, View, Place, IsWorth, worth};
+ghost use Rattle.rt_policy.specs.Visibility.{visibility, IsVisibility};
+
+use crate::Rules;
+
+/// The value of an expression is what its form says of the values of its parts.
+pub fn worth_by_forms()
+    ensures rule { (who : Who) (view : View) → IsWorth who view (worth who view) }
+    // Nothing else meets that rule.
+    ensures only { (who : Who) (view : View) (value : Judge → Place → Value) →
+        IsWorth who view value → (judge : Judge) (at : Place) → value judge at ≡ worth who view judge at }
+{}
+
+/// What is visible is what the table's policies say, where an EXISTS reads the rows of its table that are visible by the same rule.
+pub fn visible_by_policies(rules: &Rules)
+    ensures rule { (who : Who) (rows : ℕ → List Row) → IsVisibility rules.now.tables who rows (visibility rules.now.tables who rows) }
+    // Nothing else meets that rule.
+    ensures only { (who : Who) (rows : ℕ → List Row) (seen : ℕ → Row → Seen) →
+        IsVisibility rules.now.tables who rows seen → (table : ℕ) (row : Row) → seen table row ≡ visibility rules.now.tables who rows table row }
+{}

@@ -1,0 +1,63 @@
+ghost use Rattle.std.specs.Prelude.{◌≡◌};
+ghost use Rattle.std.specs.Option.{option_copied};
+ghost use Rattle.rt_value.specs.Order.{compared as order_of};
+ghost use Rattle.rt_policy.specs.Lent.{value_of};
+ghost use Rattle.rt_policy.specs.Truth.{cell_at, cell_of};
+
+use rt_value::{Row, Value};
+use std::cmp::Ordering;
+
+/// A value whose text is on loan.
+#[derive(Clone, Copy)]
+pub enum LentValue<'a> {
+    Null,
+    Int(i64),
+    Text(&'a str),
+    Bool(bool),
+    Uuid(u128),
+    Opaque,
+}
+
+pub fn lend(value: &Value) -> LentValue<'_>
+    ensures { value_of result ≡ value.now }
+{
+    match value {
+        Value::Null => LentValue::Null,
+        Value::Int(n) => LentValue::Int(*n),
+        Value::Text(text) => LentValue::Text(text.get()),
+        Value::Bool(b) => LentValue::Bool(*b),
+        Value::Uuid(n) => LentValue::Uuid(*n),
+        Value::Opaque => LentValue::Opaque,
+    }
+}
+
+/// The order of two values on loan, which is that of the values.
+pub fn order(a: LentValue<'_>, b: LentValue<'_>) -> Option<Ordering>
+    ensures { result ≡ order_of (value_of a.entry) (value_of b.entry) }
+{
+    match (a, b) {
+        (LentValue::Int(x), LentValue::Int(y)) => Some(x.cmp(&y)),
+        (LentValue::Text(x), LentValue::Text(y)) => Some(x.cmp(y)),
+        (LentValue::Bool(x), LentValue::Bool(y)) => Some(x.cmp(&y)),
+        (LentValue::Uuid(x), LentValue::Uuid(y)) => Some(x.cmp(&y)),
+        _ => None,
+    }
+}
+
+pub fn cell(row: &Row, column: u32) -> LentValue<'_>
+    ensures { value_of result ≡ cell_at row.now column }
+{
+    match row.values.get().get(column as usize) {
+        None => LentValue::Null,
+        Some(value) => lend(value),
+    }
+}
+
+pub fn cell_in(row: Option<&Row>, column: u32) -> LentValue<'_>
+    ensures { value_of result ≡ cell_of (option_copied row.entry) column }
+{
+    match row {
+        None => LentValue::Null,
+        Some(row) => cell(row, column),
+    }
+}
