@@ -1,5 +1,5 @@
 -- The tables that an expression's subqueries read, each with the columns that it names of it.
-use Rattle.std.specs.Prelude.{ℕ, if◌then◌else◌, List, [], ◌∷◌, ◌++◌, Option, Some, None, option_map}
+use Rattle.std.specs.Prelude.{ℕ, if◌then◌else◌, List, [], ◌∷◌, ◌++◌, Option, Some, None, option_map, unwrap_or}
 use Rattle.std.specs.List.{flat_map}
 use Rattle.rt_policy.specs.declared.expr.Selected.{Selected}
 use Rattle.rt_policy.specs.declared.expr.Selected.TheVariants.{Column as OfColumn}

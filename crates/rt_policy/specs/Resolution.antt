@@ -1,7 +1,7 @@
 -- What an expression means on a table: its names looked up, its constants read, and its kinds going together (PostgreSQL, "Type Conversion";
 -- the groups are this project's profile).
-use Rattle.std.specs.Prelude.{ℕ, Bool, true, false, ◌&&◌, ◌||◌, not, if◌then◌else◌, List, [], ◌∷◌, map, slice_get, Option, Some, None, option_map, unwrap_or, find, Result, Ok, Err}
-use Rattle.std.specs.List.{list_any, enumerate_from}
+use Rattle.std.specs.Prelude.{ℕ, ◌==◌, ℤ, pos, neg_ℤ, Bool, true, false, ◌&&◌, ◌||◌, not, if◌then◌else◌, List, [], ◌∷◌, ◌++◌, map, codes, slice_get, Option, Some, None, option_map, unwrap_or, find, Result, Ok, Err}
+use Rattle.std.specs.List.{list_any, list_all, filter_map, enumerate_from}
 use Rattle.std.specs.Str.{bytes_eq}
 use Rattle.rt_value.specs.declared.value.Value.{Value}
 use Rattle.rt_value.specs.declared.value.Value.TheVariants as value
@@ -9,6 +9,7 @@ use Rattle.rt_value.specs.declared.value.Kind.{Kind}
 use Rattle.rt_value.specs.declared.value.Kind.TheVariants as kind
 use Rattle.rt_value.specs.Choice.{◌>>=◌, some_if}
 use Rattle.rt_value.specs.Reading.{value_in_text}
+use Rattle.rt_policy.specs.declared.judge.Comparison.TheVariants as comparison
 use Rattle.rt_policy.specs.declared.judge.Tested.{Tested}
 use Rattle.rt_policy.specs.declared.judge.Tested.TheVariants as tested
 use Rattle.rt_policy.specs.declared.judge.Judge.{Judge}
@@ -17,6 +18,7 @@ use Rattle.rt_policy.specs.declared.expr.Literal.{Literal}
 use Rattle.rt_policy.specs.declared.expr.Literal.TheVariants as literal
 use Rattle.rt_policy.specs.declared.expr.Selected.{Selected}
 use Rattle.rt_policy.specs.declared.expr.Selected.TheVariants as selected
+use Rattle.rt_policy.specs.declared.expr.TypeName.{TypeName}
 use Rattle.rt_policy.specs.declared.expr.Expr.{Expr}
 use Rattle.rt_policy.specs.declared.expr.Expr.TheOpen.{Expr-F}
 use Rattle.rt_policy.specs.declared.expr.Expr.TheFolds.{fold-Expr}
