@@ -1,6 +1,6 @@
 -- A filter and its text, COLUMN=OP.VALUE (the Realtime protocol, "Postgres Changes", filters).
-use Rattle.std.specs.Prelude.{◌≡◌, ℕ, ◌==◌, nat_lt, ◌-◌, Bool, true, false, ◌&&◌, not, List, [], ◌∷◌, ◌++◌, map, length, take, drop, reverse, replicate, codes, find, Option, Some, None}
-use Rattle.std.specs.List.{list_any, list_all, before_first, after_first, join_with_byte}
+use Rattle.std.specs.Prelude.{◌≡◌, ℕ, ◌==◌, nat_lt, ◌-◌, Bool, true, false, ◌&&◌, not, List, [], ◌∷◌, ◌++◌, map, length, take, drop, reverse, replicate, codes, find, Option, Some, None, option_map}
+use Rattle.std.specs.List.{list_all, position_or_len, before_first, after_first, join_with_byte, slice_split}
 use Rattle.std.specs.Str.{bytes_eq}
 use Rattle.rt_value.specs.Choice.{◌>>=◌, some_if}
 use Rattle.rt_filter.specs.declared.filter.Op.{Op}
@@ -57,9 +57,9 @@ pub record IsFilter (text : List ℕ) (f : Filter) : Type 0 where
   pub values : AreValues f.op value f.values
 
 -- The same as a function.
-abbrev pub parts_from : List ℕ → List ℕ → List (List ℕ)
-parts_from part [] = part ∷ []
-parts_from part (b ∷ bytes) = elim (b == 44) [ true ↦ part ∷ parts_from [] bytes | false ↦ parts_from (part ++ b ∷ []) bytes ]
+-- what stands before and after the first such byte, where there is one
+abbrev pub cut : ℕ → List ℕ → Option (List ℕ × List ℕ)
+cut b bytes = let is = λ (c : ℕ). c == b in some_if (nat_lt (position_or_len is bytes) (length bytes)) (before_first is bytes, after_first is bytes)
 
 abbrev pub without_spaces : List ℕ → List ℕ
 without_spaces [] = []
@@ -71,28 +71,32 @@ trimmed bytes = reverse (without_spaces (reverse (without_spaces bytes)))
 abbrev pub is_in_parentheses : List ℕ → Bool
 is_in_parentheses bytes = nat_lt 2 (length bytes) && bytes_eq (take 1 bytes) (codes "(") && bytes_eq (drop (length bytes - 1) bytes) (codes ")")
 
+-- what stands between the parentheses
+abbrev pub inside : List ℕ → Option (List ℕ)
+inside bytes = some_if (is_in_parentheses bytes) (take (length bytes - 2) (drop 1 bytes))
+
 abbrev pub listed_values : List ℕ → Option (List (List ℕ))
-listed_values bytes = some_if (is_in_parentheses bytes) (map trimmed (parts_from [] (take (length bytes - 2) (drop 1 bytes))))
+listed_values bytes = option_map (λ texts. map trimmed (slice_split (λ b. b == 44) texts)) (inside bytes)
 
 abbrev pub every_op : List Op
 every_op = Eq ∷ Neq ∷ Lt ∷ Lte ∷ Gt ∷ Gte ∷ OneOf ∷ []
+
+abbrev pub op_named : List ℕ → Option Op
+op_named name = find (λ op. bytes_eq name (op_name op)) every_op
 
 abbrev pub values_of : Op → List ℕ → Option (List (List ℕ))
 values_of OneOf bytes = listed_values bytes
 values_of _ bytes = Some (bytes ∷ [])
 
-abbrev pub has_byte : ℕ → List ℕ → Bool
-has_byte b bytes = not (lacks b bytes)
+-- the column, the operator and what stands behind it
+abbrev pub parts_of : List ℕ → Option (List ℕ × Op × List ℕ)
+parts_of text =
+    cut 61 text >>= λ c. some_if (nat_lt 0 (length c.0)) c.1 >>= λ rest. cut 46 rest >>= λ d.
+    option_map (λ op. (c.0, op, d.1)) (op_named d.0)
 
-abbrev pub filter_with : List ℕ → List ℕ → Option Filter
-filter_with column rest =
-    some_if (has_byte 46 rest) rest >>= λ _.
-    find (λ op. bytes_eq (op_name op) (before_first (λ b. b == 46) rest)) every_op >>= λ op.
-    values_of op (after_first (λ b. b == 46) rest) >>= λ values.
-    Some (record { column = column; op = op; values = values })
+abbrev pub filter_with : List ℕ × Op × List ℕ → Option Filter
+filter_with p = option_map (λ values. record { column = p.0; op = p.1; values = values }) (values_of p.1 p.2)
 
 -- The filter of a text, none where it isn't one. That it is the one of `IsFilter` is a law.
 unfoldable pub filter_of : List ℕ → Option Filter
-filter_of text =
-    let column = before_first (λ b. b == 61) text in
-    some_if (has_byte 61 text && nat_lt 0 (length column)) text >>= λ _. filter_with column (after_first (λ b. b == 61) text)
+filter_of text = parts_of text >>= filter_with

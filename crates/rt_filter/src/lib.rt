@@ -1,10 +1,19 @@
 //! Filters of subscriptions, as a client writes them and as a test of a row's cells (the Realtime protocol, "Postgres Changes").
 #![tactic(auto)]
 
+mod checking;
 mod fault;
 mod filter;
+pub mod laws;
+mod passing;
+mod reading;
 mod subscription;
+#[cfg(test)]
+mod tests;
 
+pub use checking::check;
 pub use fault::FilterFault;
 pub use filter::{Filter, Op, Shown, Test};
+pub use passing::passes;
+pub use reading::read;
 pub use subscription::{Subscription, Wanted};
