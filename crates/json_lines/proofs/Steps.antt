@@ -56,6 +56,7 @@ stop_byte b bs e = by (b == 10) e
   where
     longer : past_line bs ≡ b ∷ bs → ⊥
     longer h = let r = line_run bs in omega (arith, ap length h, ap length r.parts, length-append r.run (past_line bs))
+
     by : (x : Bool) → choose x (b ∷ bs) (past_line bs) ≡ b ∷ bs → x ≡ true
     by true h = refl
     by false h = absurd (longer h)
@@ -84,7 +85,7 @@ line_step input at to next out answered written le lt is e h (answer, good, same
     let feed : b ≡ 10 = eqb-true b 10 (stop_byte b (drop (to + 1) input) (ap past_line (sym here) ∙ ap past_line e ∙ line_stops (drop at input) ∙ sym e ∙ here)) in
     let line : List ℕ = take (to - at) (drop at input) in
     let split : drop at input ≡ line ++ 10 ∷ drop next input =
-        s.parts ∙ ap (λ (ys : List ℕ). line ++ ys) (here ∙ ap (λ (x : ℕ). x ∷ drop (to + 1) input) feed ∙ ap (λ (n : ℕ). 10 ∷ drop n input) (sym is)) in
+    s.parts ∙ ap (λ (ys : List ℕ). line ++ ys) (here ∙ ap (λ (x : ℕ). x ∷ drop (to + 1) input) feed ∙ ap (λ (n : ℕ). 10 ∷ drop n input) (sym is)) in
     let one = h (answer ++ 10 ∷ rest) (subst (λ (ys : List ℕ). Answers ys (answer ++ 10 ∷ rest)) (sym split) (l.line s.is_line good k)) in
     subst (Answers input) (joined out answered written answer rest same ends) one
   where
@@ -108,10 +109,12 @@ last_step input at to out answered written lt all e h (answer, good, same) ends 
     no_cons : (line input : List ℕ) → line ++ 10 ∷ input ≡ [] → ⊥
     no_cons [] input e = absurd cc
     no_cons (x ∷ xs) input e = absurd cc
+
     by : (xs rest : List ℕ) → xs ≡ [] → Answers xs rest → rest ≡ []
     by xs rest e l.none = refl
     by xs rest e (l.last_line {line = ys} is some good) = absurd (some e)
     by xs rest e (l.line {line = ys} {input = zs} is good more) = absurd (no_cons ys zs e)
+
     no_rest : Answers [] rest → rest ≡ []
     no_rest k = by [] rest refl k
 
@@ -132,6 +135,7 @@ step input at to next out answer shown answered written some le within e line la
   where
     whole : answered ≡ out ++ answer
     whole = more ∙ ap (λ (ys : List ℕ). out ++ ys) same
+
     by : (to < length input) ⊎ (length input ≤ to) → (next ≤ length input) × Completes input next written
     by (inl lt) = let n = line lt in (omega (arith, n, lt), line_step input at to next out answered written le lt n e h (answer, good, whole) ends)
     by (inr ge) =
