@@ -8,7 +8,7 @@ use Rattle.rt_value.specs.Choice.{◌>>=◌, some_if}
 use Rattle.rt_json.specs.Machine.{tree_of}
 use Rattle.rt_wal.specs.declared.records.Record.{Record}
 use Rattle.rt_wal.specs.declared.faults.RecordWhy.{RecordWhy}
-use Rattle.rt_wal.specs.Records.{IsRecord, IsRefused}
+use Rattle.rt_wal.specs.Records.{IsRecord, IsRefusedText, content_of}
 use Rattle.rt_token.specs.declared.fault.TokenFault.{TokenFault}
 use Rattle.rt_token.specs.Claims.{claims_in_tree}
 use Rattle.rt_token.specs.Tokens.{signed_token}
@@ -220,7 +220,7 @@ pub data Refuses (c : Catalog) (st : State) (number : ℕ) (line : List ℕ) : L
   late : is_late st line ≡ true → Refuses c st number line why.Late
   no_command : is_passed_over line ≡ false → is_late st line ≡ false → ((k : Command) → IsCommand st line k → ⊥) → Refuses c st number line why.Form
   no_meaning : {k : Command} {reason : LineWhy} → IsCommand st line k → state_after st number k ≡ Err reason → Refuses c st number line reason
-  no_record : {bytes : List ℕ} (reason : RecordWhy) → IsCommand st line (command.wal bytes) → IsRefused bytes reason → Refuses c st number line why.Record
+  no_record : {bytes : List ℕ} (reason : RecordWhy) → IsCommand st line (command.wal bytes) → IsRefusedText (content_of bytes) reason → Refuses c st number line why.Record
   unbound : {bytes : List ℕ} {r : Record} {e : ChangeFault} {reason : LineWhy}
       → IsCommand st line (command.wal bytes) → IsRecord bytes r → change_of c r ≡ Err e → why_of e ≡ Some reason → Refuses c st number line reason
 
