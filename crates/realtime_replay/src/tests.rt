@@ -270,6 +270,7 @@ fn edges_of_the_script(rt: HostRuntime) -> Result<(), Fail> {
         (3, "poll", "poll\n", Status::NotBuilt),
     ] {
         let mut lines = [OPEN, FRAME, WAL, "poll"];
+        assert!(rt; line < 4);
         let Some((before, after)) = lines[line].split_once(from) else {
             return Err(Fail::from("no such text"));
         };
