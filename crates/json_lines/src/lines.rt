@@ -1,6 +1,7 @@
 ghost use Rattle.std.specs.Prelude.{◌≡◌, ◌+◌, ◌<◌, ◌≤◌, drop, length, IfOk};
 ghost use Rattle.json_lines.specs.Lines.{Answers, IsAnswer, past_line};
 
+use memchr::memchr;
 use rt_json::{JsonFault, read, write};
 use rt_value::Bytes;
 use std::alloc::{AllocError, Global};
@@ -12,11 +13,10 @@ fn line_end(input: &[u8], at: usize) -> usize
     ensures within { result ≤ length input.now }
     ensures rest { drop result input.now ≡ past_line (drop at input.now) }
 {
-    let mut to = at;
-    while to < input.len() && input[to] != b'\n' {
-        to += 1;
+    match memchr(b'\n', &input[at..]) {
+        Some(count) => at + count,
+        None => input.len(),
     }
-    to
 }
 
 /// The spelling of the line's tree, or the place of its fault.

@@ -1,10 +1,10 @@
 ghost use Rattle.std.specs.Prelude.{◌≡◌, ◌≤◌, ◌+◌, ◌<◌, ◌^◌, drop, length, string_bytes, IsUtf8, true};
-ghost use Rattle.std.specs.List.{list_all};
+ghost use Rattle.std.specs.List.{list_all, prefix_len};
 ghost use Rattle.rt_json.specs.Machine as spec;
-ghost use Rattle.rt_json.specs.Reads.{is_plain, past_plain, char_step, TextReads, MoreReads, Utf8Reads, BreaksAt, EscapeReads, CharReads, LowReads, UnitReads, FirstReads, FrontReads, DigitReads, ByteReads, PairReads};
+ghost use Rattle.rt_json.specs.Reads.{is_ascii_plain, is_plain, past_plain, char_step, TextReads, MoreReads, RunReads, Utf8Reads, BreaksAt, EscapeReads, CharReads, LowReads, UnitReads, FirstReads, FrontReads, DigitReads, ByteReads, PairReads};
 
 use crate::bytes::{Tail, hex_value, in_tail, lead, short_escape};
-use crate::scan::past_plain;
+use crate::scan::{past_ascii, past_plain};
 use crate::stop::Stop;
 use rt_value::Text;
 use std::alloc::Global;
@@ -62,6 +62,16 @@ fn utf8(bytes: &[u8], from: usize, to: usize) -> Result<&str, Stop>
         Ok(text) => Ok(text),
         Err(_) => Err(Stop::Bad(bytes.len() - from - broken(run))),
     }
+}
+
+/// A run of ASCII bytes that stand for themselves, as text. Its bytes need no test: each is a character.
+fn ascii(bytes: &[u8], from: usize, to: usize) -> &str
+    requires order { from ≤ to }
+    requires within { to ≤ length bytes.now }
+    requires run { to ≡ from + prefix_len is_ascii_plain (drop from bytes.now) }
+    ensures { RunReads bytes.now from to result.now }
+{
+    unsafe { std::str::from_utf8_unchecked(&bytes[from..to]) }
 }
 
 fn digit(bytes: &[u8], at: usize) -> Result<u8, Stop>
@@ -194,12 +204,12 @@ fn room(bytes: &[u8], at: usize) -> usize
     requires { at ≤ length bytes.now }
 {
     let mut to = at;
-    while to < bytes.len() && bytes[to] != b'"' {
-        let escaped = bytes[to] == b'\\';
-        to += 1;
-        if escaped && to < bytes.len() {
-            to += 1;
+    while to < bytes.len() {
+        to = past_plain(bytes, to);
+        if to == bytes.len() || bytes[to] != b'\\' {
+            return to - at;
         }
+        to = to.saturating_add(2).min(bytes.len());
     }
     to - at
 }
@@ -236,8 +246,8 @@ pub fn text(alloc: Global, bytes: &[u8], at: usize) -> Result<(Text, usize), Sto
     requires { at ≤ length bytes.now }
     ensures { TextReads bytes.now at result }
 {
-    let to = past_plain(bytes, at);
-    let front = utf8(bytes, at, to)?;
+    let to = past_ascii(bytes, at);
+    let front = ascii(bytes, at, to);
     if to < bytes.len() && bytes[to] == b'"' {
         let text = String::from_str(alloc, front)?;
         return Ok((Text::new(text), to + 1));
