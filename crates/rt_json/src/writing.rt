@@ -120,13 +120,21 @@ fn write_member(out: &mut Vec<u8>, member: &Member) -> Result<(), AllocError>
     write_value(out, &member.value)
 }
 
-/// The one spelling of a tree: no blanks, the members in order, and no escape that isn't needed. Fails for want of
-/// memory alone.
+/// The one spelling of a tree behind the bytes that are given: no blanks, the members in order, and no escape that isn't
+/// needed. Fails for want of memory alone, and then the bytes are gone.
+pub fn write_behind(bytes: Vec<u8>, tree: &Json) -> Result<Vec<u8>, AllocError>
+    ensures { IfOk result (λ all. all.items ≡ bytes.items ++ written tree.now) }
+{
+    let mut out = bytes;
+    write_value(&mut out, tree)?;
+    Ok(out)
+}
+
+/// The one spelling of a tree, as `write_behind` gives it, alone. Fails for want of memory alone.
 pub fn write(alloc: Global, tree: &Json) -> Result<Bytes, AllocError>
     ensures { IfOk result (λ bytes. bytes ≡ written tree.now) }
 {
-    let mut out = Vec::with_capacity(alloc, FIRST_ROOM)?;
-    write_value(&mut out, tree)?;
+    let out = write_behind(Vec::with_capacity(alloc, FIRST_ROOM)?, tree)?;
     Ok(Bytes::new(out))
 }
 
