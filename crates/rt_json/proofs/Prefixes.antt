@@ -1,8 +1,8 @@
 -- What stands before the first byte that stops a run, as a list.
-use Rattle.std.proofs.Common.{◌≡◌, ◌≢◌, ℕ, zero, suc, ◌+◌, ◌-◌, ◌<◌, ◌≤◌, Bool, true, false, cond, List, [], ◌∷◌, ◌++◌, refl, sym, ap, subst, ◌∙◌, length, drop, take, get_or, arith, append_assoc, append-nil, flat_map}
+use Rattle.std.proofs.Common.{◌≡◌, ◌≢◌, ℕ, zero, suc, ◌+◌, ◌-◌, ◌<◌, ◌≤◌, Bool, true, false, cond, List, [], ◌∷◌, ◌++◌, refl, sym, ap, subst, ◌∙◌, length, drop, take, get_or, arith, append_assoc, append-nil, flat_map, length-drop}
 use Rattle.std.specs.Prelude.{◌==◌, ◌&&◌, nat_lt, IsUtf8}
 use Rattle.std.proofs.lemmas.Bool.{eqb-false, ltb-true}
-use Rattle.std.proofs.lemmas.List.{drop-drop, drop_more, drop_all, take_at}
+use Rattle.std.proofs.lemmas.List.{drop-drop, drop_more, drop_all, drop-append-le, take-append-le}
 use Rattle.std.proofs.lemmas.Str.{encode_ascii, IsUtf8-append, IsUtf8-encode, IsUtf8-nil}
 use Rattle.std.specs.List.{prefix_len, list_all}
 use lib.Utf8.{low_scalar}
@@ -33,6 +33,17 @@ plain_slice bytes from to order within e =
     let r = plain_run (drop from bytes) in
     let is = slice_is bytes r.run from to order within (r.parts ∙ ap (λ (xs : List ℕ). r.run ++ xs) (sym e)) in
     ap (list_all is_plain) (sym is) ∙ r.plain
+
+-- a part of what the bytes begin with from a place on
+pub same_part : (bytes text rest : List ℕ) (from at to : ℕ) → from ≤ at → at ≤ to → to - from ≤ length text → drop from bytes ≡ text ++ rest
+    → take ((to - from) - (at - from)) (drop (at - from) text) ≡ take (to - at) (drop at bytes)
+same_part bytes text rest from at to f le within e =
+    let n : (to - from) - (at - from) ≡ to - at = omega (arith, f, le) in
+    let place : from + (at - from) ≡ at = omega (arith, f) in
+    let short : to - at ≤ length (drop (at - from) text) = omega (arith, length-drop (at - from) text, f, le, within) in
+    let there : drop at bytes ≡ drop (at - from) text ++ rest =
+    ap (λ (k : ℕ). drop k bytes) (sym place) ∙ sym (drop-drop (at - from) from bytes) ∙ ap (drop (at - from)) e ∙ drop-append-le (at - from) text rest (omega (arith, f, le, within)) in
+    ap (λ (k : ℕ). take k (drop (at - from) text)) n ∙ sym (take-append-le (to - at) (drop (at - from) text) rest short) ∙ ap (take (to - at)) (sym there)
 
 front_passes : (q : ℕ → Bool) (xs : List ℕ) → list_all q (take (prefix_len q xs) xs) ≡ true
 front_passes q [] = refl

@@ -1,12 +1,13 @@
 ghost use Rattle.std.specs.Prelude.{◌≡◌, ◌≤◌, ◌+◌, ◌<◌, ◌^◌, drop, length, string_bytes, IsUtf8, true};
 ghost use Rattle.std.specs.List.{list_all, prefix_len};
 ghost use Rattle.rt_json.specs.Machine as spec;
-ghost use Rattle.rt_json.specs.Reads.{is_ascii_plain, is_plain, past_plain, char_step, TextReads, MoreReads, RunReads, Utf8Reads, BreaksAt, EscapeReads, CharReads, LowReads, UnitReads, FirstReads, FrontReads, DigitReads, ByteReads, PairReads};
+ghost use Rattle.rt_json.specs.Reads.{is_ascii_plain, is_plain, past_plain, char_step, TextReads, MoreReads, RunReads, StandsAt, Utf8Reads, BreaksAt, EscapeReads, CharReads, LowReads, UnitReads, FirstReads, FrontReads, DigitReads, ByteReads, PairReads};
 
 use crate::bytes::{Tail, hex_value, in_tail, lead, short_escape};
 use crate::scan::{past_ascii, past_plain};
 use crate::stop::Stop;
 use rt_value::Text;
+use simdutf8::compat::from_utf8;
 use std::alloc::Global;
 
 /// The bytes that are wanted within a character of several: the kind of the next, and how many more.
@@ -61,6 +62,43 @@ fn utf8(bytes: &[u8], from: usize, to: usize) -> Result<&str, Stop>
     match std::str::from_utf8(run) {
         Ok(text) => Ok(text),
         Err(_) => Err(Stop::Bad(bytes.len() - from - broken(run))),
+    }
+}
+
+/// What is known to be UTF-8 from a place on: all up to the other place, or nothing.
+fn known(bytes: &[u8], from: usize, to: usize) -> &str
+    requires order { from ≤ to }
+    requires within { to ≤ length bytes.now }
+    ensures { StandsAt result.now from bytes.now }
+{
+    match from_utf8(&bytes[from..to]) {
+        Ok(text) => text,
+        Err(_) => "",
+    }
+}
+
+/// A run of bytes that stand for themselves, as text: a part of what is known, or else tested.
+fn run<'a>(
+    bytes: &'a [u8],
+    known: &'a str,
+    from: usize,
+    at: usize,
+    to: usize,
+) -> Result<&'a str, Stop>
+    requires known { StandsAt known.now from bytes.now }
+    requires from { from ≤ at }
+    requires order { at ≤ to }
+    requires within { to ≤ length bytes.now }
+    requires run { drop to bytes.now ≡ past_plain (drop at bytes.now) }
+    ensures { Utf8Reads bytes.now at to result }
+{
+    match known.get(at - from..to - from) {
+        Some(text) => {
+            // Its clause says that a text is UTF-8.
+            let _bytes = text.as_bytes();
+            Ok(text)
+        }
+        None => utf8(bytes, at, to),
     }
 }
 
@@ -202,6 +240,7 @@ fn escape(bytes: &[u8], at: usize) -> Result<(char, usize), Stop>
 /// At least as many bytes as the text from here on has, up to its quote.
 fn room(bytes: &[u8], at: usize) -> usize
     requires { at ≤ length bytes.now }
+    ensures { at + result ≤ length bytes.now }
 {
     let mut to = at;
     while to < bytes.len() {
@@ -214,16 +253,17 @@ fn room(bytes: &[u8], at: usize) -> usize
     to - at
 }
 
-/// The rest of a text, and the place behind its quote.
-fn more(bytes: &[u8], at: usize, front: String) -> Result<(Text, usize), Stop>
-    requires { at ≤ length bytes.now }
+/// The rest of a text, and the place behind its quote. What is known begins where the rest does.
+fn more(bytes: &[u8], at: usize, front: String, known: &str) -> Result<(Text, usize), Stop>
+    requires within { at ≤ length bytes.now }
+    requires known { StandsAt known.now at bytes.now }
     ensures { MoreReads bytes.now at (string_bytes front) result }
 {
     let mut text = front;
     let mut to = at;
     loop {
         let next = past_plain(bytes, to);
-        let piece = utf8(bytes, to, next)?;
+        let piece = run(bytes, known, at, to, next)?;
         text.push_str(piece)?;
         if next == bytes.len() {
             return Err(Stop::Bad(0));
@@ -252,7 +292,9 @@ pub fn text(alloc: Global, bytes: &[u8], at: usize) -> Result<(Text, usize), Sto
         let text = String::from_str(alloc, front)?;
         return Ok((Text::new(text), to + 1));
     }
-    let mut text = String::with_capacity(alloc, front.len().saturating_add(room(bytes, to)))?;
+    let room = room(bytes, to);
+    let known = known(bytes, to, to + room);
+    let mut text = String::with_capacity(alloc, front.len().saturating_add(room))?;
     text.push_str(front)?;
-    more(bytes, to, text)
+    more(bytes, to, text, known)
 }
