@@ -9,6 +9,7 @@ use crate::stop::Stop;
 use rt_value::Text;
 use simdutf8::compat::from_utf8;
 use std::alloc::Global;
+use std::simd::prelude::*;
 
 /// The bytes that are wanted within a character of several: the kind of the next, and how many more.
 type Wanted = Option<(Tail, u8)>;
@@ -237,20 +238,24 @@ fn escape(bytes: &[u8], at: usize) -> Result<(char, usize), Stop>
     }
 }
 
-/// At least as many bytes as the text from here on has, up to its quote.
+/// About how many bytes the text from here on has: up to a quote that stands behind no backslash. Where a text ends in an
+/// escaped backslash this is more, and never past the quote that opens the next one.
 fn room(bytes: &[u8], at: usize) -> usize
     requires { at ≤ length bytes.now }
     ensures { at + result ≤ length bytes.now }
 {
     let mut to = at;
-    while to < bytes.len() {
-        to = past_plain(bytes, to);
-        if to == bytes.len() || bytes[to] != b'\\' {
-            return to - at;
+    while bytes.len() - to > 16 {
+        let before = u8x16::from_slice(&bytes[to..]);
+        let here = u8x16::from_slice(&bytes[to + 1..]);
+        let quotes = here.simd_eq(u8x16::splat(b'"')) & before.simd_ne(u8x16::splat(b'\\'));
+        let found = quotes.to_bitmask();
+        if found != 0 {
+            return to + 1 + (found.trailing_zeros() as usize).min(15) - at;
         }
-        to = to.saturating_add(2).min(bytes.len());
+        to += 16;
     }
-    to - at
+    bytes.len() - at
 }
 
 /// The rest of a text, and the place behind its quote. What is known begins where the rest does.
