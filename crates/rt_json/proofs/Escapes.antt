@@ -13,12 +13,12 @@ use Rattle.rt_json.specs.Machine.{in_tail}
 use Rattle.rt_json.proofs.Utf8.{Fills, multibyte}
 use Rattle.rt_json.proofs.ByteTests.{both, order}
 
-flat-append : (xs ys : List ℕ) → flat_map written_byte (xs ++ ys) ≡ flat_map written_byte xs ++ flat_map written_byte ys
+pub flat-append : (xs ys : List ℕ) → flat_map written_byte (xs ++ ys) ≡ flat_map written_byte xs ++ flat_map written_byte ys
 flat-append [] ys = refl
 flat-append (x ∷ xs) ys = ap (λ (zs : List ℕ). written_byte x ++ zs) (flat-append xs ys) ∙ sym (append_assoc (written_byte x) (flat_map written_byte xs) (flat_map written_byte ys))
 
 -- a byte from 32 on that is neither a quote nor a backslash stands for itself
-plain_written : (b : ℕ) → 32 ≤ b → b ≢ 34 → b ≢ 92 → written_byte b ≡ b ∷ []
+pub plain_written : (b : ℕ) → 32 ≤ b → b ≢ 34 → b ≢ 92 → written_byte b ≡ b ∷ []
 unfolding written_byte
 plain_written b l no34 no92 =
     let e8 : b ≢ 8 = omega arith in let e9 : b ≢ 9 = omega arith in let e10 : b ≢ 10 = omega arith in let e12 : b ≢ 12 = omega arith in let e13 : b ≢ 13 = omega arith in

@@ -4,10 +4,14 @@ ghost use Rattle.rt_json.specs.Fits.{FitsWithin};
 ghost use Rattle.rt_json.specs.Grammar.{IsJson, max_levels};
 ghost use Rattle.rt_json.specs.declared.tree.Json.{Json};
 
+use crate::scan::past_plain;
 use crate::tree::Json;
 use crate::tree::named::Member;
 use rt_value::Bytes;
 use std::alloc::{AllocError, Global};
+
+/// How many bytes are made room for at first.
+const FIRST_ROOM: usize = 512;
 
 fn hex_digit(value: u8) -> u8
     requires { value < 16 }
@@ -39,15 +43,22 @@ fn write_byte(out: &mut Vec<u8>, byte: u8) -> Result<(), AllocError>
     }
 }
 
+/// A text in quotes: runs of bytes that stand for themselves, and what stands for each byte between them.
 fn write_text(out: &mut Vec<u8>, text: &[u8]) -> Result<(), AllocError>
     ensures { OnOk result (out.new.items ≡ out.old.items ++ quoted text.now) }
 {
     out.push(b'"')?;
-    for byte in text {
-        write_byte(out, *byte)?;
+    let mut at = 0;
+    loop {
+        let next = past_plain(text, at);
+        out.extend_from_slice(&text[at..next])?;
+        if next == text.len() {
+            out.push(b'"')?;
+            return Ok(());
+        }
+        write_byte(out, text[next])?;
+        at = next + 1;
     }
-    out.push(b'"')?;
-    Ok(())
 }
 
 fn write_comma(out: &mut Vec<u8>, at: usize) -> Result<(), AllocError>
@@ -109,13 +120,21 @@ fn write_member(out: &mut Vec<u8>, member: &Member) -> Result<(), AllocError>
     write_value(out, &member.value)
 }
 
-/// The one spelling of a tree: no blanks, the members in order, and no escape that isn't needed. Fails for want of
-/// memory alone.
+/// The one spelling of a tree behind the bytes that are given: no blanks, the members in order, and no escape that isn't
+/// needed. Fails for want of memory alone, and then the bytes are gone.
+pub fn write_behind(bytes: Vec<u8>, tree: &Json) -> Result<Vec<u8>, AllocError>
+    ensures { IfOk result (λ all. all.items ≡ bytes.items ++ written tree.now) }
+{
+    let mut out = bytes;
+    write_value(&mut out, tree)?;
+    Ok(out)
+}
+
+/// The one spelling of a tree, as `write_behind` gives it, alone. Fails for want of memory alone.
 pub fn write(alloc: Global, tree: &Json) -> Result<Bytes, AllocError>
     ensures { IfOk result (λ bytes. bytes ≡ written tree.now) }
 {
-    let mut out = Vec::new(alloc);
-    write_value(&mut out, tree)?;
+    let out = write_behind(Vec::with_capacity(alloc, FIRST_ROOM)?, tree)?;
     Ok(Bytes::new(out))
 }
 
