@@ -1,4 +1,4 @@
-ghost use Rattle.std.specs.Prelude.{◌≡◌, IfOk, codes, map, option_and_then};
+ghost use Rattle.std.specs.Prelude.{◌≡◌, ◌==◌, IfOk, slice_index, codes, map, option_and_then};
 ghost use Rattle.std.specs.Option.{option_copied};
 ghost use Rattle.rt_value.specs.Reading.{uuid_in_text};
 ghost use Rattle.rt_json.specs.Lookup.{member_of, members_of};
@@ -11,9 +11,10 @@ ghost use Rattle.rt_token.specs.Trees.{claim_value};
 
 use crate::fault::TokenFault;
 use rt_json::{Json, Member, member, write};
-use rt_value::{Claim, Claims, Kind, List, Text, Value, ValueFault, from_text};
+use rt_value::{Claim, Claims, List, Text};
 use std::alloc::{AllocError, Global};
 use std::collections::BTreeSet;
+use uuid::Uuid;
 
 /// The greatest `exp`: each second up to it is a double of its own.
 const EXP_LIMIT: u64 = 9_007_199_254_740_991;
@@ -34,11 +35,21 @@ pub fn text_in<'a>(tree: &'a Json, name: &str) -> Option<&'a Text>
     }
 }
 
+fn has_plus(digits: &str) -> bool
+    ensures { result ≡ (slice_index digits.now 0 == 43) }
+{
+    match digits.as_bytes().first() {
+        Some(byte) => *byte == b'+',
+        None => false,
+    }
+}
+
 /// The number of seconds that digits alone write.
 fn seconds_in(digits: &str) -> Option<u64>
     ensures { result ≡ spec.seconds_in digits.now }
 {
-    if !digits.bytes().all(|byte| byte.is_ascii_digit()) {
+    // `parse` takes a sign too.
+    if has_plus(digits) {
         return None;
     }
     match digits.parse::<u64>() {
@@ -69,24 +80,22 @@ pub fn exp_of(tree: &Json) -> Result<Option<u64>, TokenFault>
 }
 
 /// The uuid that a text reads as.
-fn uuid_in(alloc: Global, text: &Text) -> Result<Option<u128>, AllocError>
-    ensures { IfOk result (λ uuid. uuid ≡ uuid_in_text text.now) }
+fn uuid_in(text: &str) -> Option<u128>
+    ensures { result ≡ uuid_in_text text.now }
 {
-    match from_text(alloc, Kind::Uuid, text.get()) {
-        Ok(Value::Uuid(uuid)) => Ok(Some(uuid)),
-        Ok(_) => unreachable!(),
-        Err(ValueFault::BadText) => Ok(None),
-        Err(ValueFault::NoMemory) => Err(AllocError),
+    match Uuid::parse_str(text) {
+        Ok(uuid) => Some(uuid.as_u128()),
+        Err(_) => None,
     }
 }
 
-fn sub_of(alloc: Global, tree: &Json) -> Result<Option<u128>, AllocError>
-    ensures { IfOk result (λ sub.
-        sub ≡ option_and_then uuid_in_text (option_and_then text_of (member_of tree.now (codes "sub")))) }
+fn sub_of(tree: &Json) -> Option<u128>
+    ensures { result
+        ≡ option_and_then uuid_in_text (option_and_then text_of (member_of tree.now (codes "sub"))) }
 {
     match text_in(tree, "sub") {
-        Some(text) => uuid_in(alloc, text),
-        None => Ok(None),
+        Some(text) => uuid_in(text.get()),
+        None => None,
     }
 }
 
@@ -133,8 +142,9 @@ fn claims_in(alloc: Global, members: &[Member]) -> Result<List<Claim>, AllocErro
     let mut at = members.len();
     while at > 0 {
         at -= 1;
-        if names.insert(members[at].name.get())? {
-            claims.push(claim_of(alloc, &members[at])?)?;
+        let member = &members[at];
+        if names.insert(member.name.get())? {
+            claims.push(claim_of(alloc, member)?)?;
         }
     }
     claims.reverse();
@@ -160,7 +170,7 @@ pub fn with_role(alloc: Global, tree: &Json, exp: Option<u64>) -> Result<Claims,
     };
     Ok(Claims {
         role: role.copy(alloc)?,
-        sub: sub_of(alloc, tree)?,
+        sub: sub_of(tree),
         exp,
         members: members_in(alloc, tree)?,
     })
