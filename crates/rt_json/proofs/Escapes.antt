@@ -13,7 +13,7 @@ use Rattle.rt_json.specs.Machine.{in_tail}
 use Rattle.rt_json.proofs.Utf8.{Fills, multibyte}
 use Rattle.rt_json.proofs.ByteTests.{both, order}
 
-flat-append : (xs ys : List ℕ) → flat_map written_byte (xs ++ ys) ≡ flat_map written_byte xs ++ flat_map written_byte ys
+pub flat-append : (xs ys : List ℕ) → flat_map written_byte (xs ++ ys) ≡ flat_map written_byte xs ++ flat_map written_byte ys
 flat-append [] ys = refl
 flat-append (x ∷ xs) ys = ap (λ (zs : List ℕ). written_byte x ++ zs) (flat-append xs ys) ∙ sym (append_assoc (written_byte x) (flat_map written_byte xs) (flat_map written_byte ys))
 
@@ -45,7 +45,7 @@ fills_written kind (suc count) (b ∷ bs) f =
 fills_written kind zero [] f = absurd f
 fills_written kind (suc count) [] f = absurd f
 
-char_written : (ch : ℕ) → scalar ch ≡ true → 128 ≤ ch → flat_map written_byte (encode_utf8 ch) ≡ encode_utf8 ch
+pub char_written : (ch : ℕ) → scalar ch ≡ true → 128 ≤ ch → flat_map written_byte (encode_utf8 ch) ≡ encode_utf8 ch
 char_written ch sc high =
     let mb = multibyte ch sc high in
     ap (flat_map written_byte) mb.bytes ∙ ap (λ (xs : List ℕ). xs ++ flat_map written_byte mb.more) (high_written mb.first mb.high)
