@@ -45,7 +45,7 @@ fills_written kind (suc count) (b ∷ bs) f =
 fills_written kind zero [] f = absurd f
 fills_written kind (suc count) [] f = absurd f
 
-char_written : (ch : ℕ) → scalar ch ≡ true → 128 ≤ ch → flat_map written_byte (encode_utf8 ch) ≡ encode_utf8 ch
+pub char_written : (ch : ℕ) → scalar ch ≡ true → 128 ≤ ch → flat_map written_byte (encode_utf8 ch) ≡ encode_utf8 ch
 char_written ch sc high =
     let mb = multibyte ch sc high in
     ap (flat_map written_byte) mb.bytes ∙ ap (λ (xs : List ℕ). xs ++ flat_map written_byte mb.more) (high_written mb.first mb.high)

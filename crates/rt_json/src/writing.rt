@@ -1,4 +1,4 @@
-ghost use Rattle.std.specs.Prelude.{◌≡◌, ◌++◌, ◌∷◌, [], ◌<◌, flat_map, OnOk, IfOk};
+ghost use Rattle.std.specs.Prelude.{◌≡◌, ◌++◌, ◌∷◌, [], ◌<◌, flat_map, OnOk, IfOk, IsUtf8};
 ghost use Rattle.rt_json.specs.Written.{written, written_member, listed, quoted, written_byte, hex_digit, comma_before};
 ghost use Rattle.rt_json.specs.Fits.{FitsWithin};
 ghost use Rattle.rt_json.specs.Grammar.{IsJson, max_levels};
@@ -72,7 +72,8 @@ fn write_comma(out: &mut Vec<u8>, at: usize) -> Result<(), AllocError>
 
 #[cycle(write)]
 fn write_value(out: &mut Vec<u8>, tree: &Json) -> Result<(), AllocError>
-    ensures { OnOk result (out.new.items ≡ out.old.items ++ written tree.now) }
+    ensures spelling { OnOk result (out.new.items ≡ out.old.items ++ written tree.now) }
+    ensures utf8 { OnOk result (IsUtf8 out.old.items → IsUtf8 out.new.items) }
 {
     match tree {
         Json::Null => out.extend_from_slice(b"null"),
@@ -87,7 +88,8 @@ fn write_value(out: &mut Vec<u8>, tree: &Json) -> Result<(), AllocError>
 
 #[cycle(write)]
 fn write_items(out: &mut Vec<u8>, items: &[Json]) -> Result<(), AllocError>
-    ensures { OnOk result (out.new.items ≡ out.old.items ++ 91 ∷ listed written items.now ++ 93 ∷ []) }
+    ensures spelling { OnOk result (out.new.items ≡ out.old.items ++ 91 ∷ listed written items.now ++ 93 ∷ []) }
+    ensures utf8 { OnOk result (IsUtf8 out.old.items → IsUtf8 out.new.items) }
 {
     out.push(b'[')?;
     for (i, item) in items.iter().enumerate() {
@@ -100,7 +102,8 @@ fn write_items(out: &mut Vec<u8>, items: &[Json]) -> Result<(), AllocError>
 
 #[cycle(write)]
 fn write_members(out: &mut Vec<u8>, members: &[Member]) -> Result<(), AllocError>
-    ensures { OnOk result (out.new.items ≡ out.old.items ++ 123 ∷ listed written_member members.now ++ 125 ∷ []) }
+    ensures spelling { OnOk result (out.new.items ≡ out.old.items ++ 123 ∷ listed written_member members.now ++ 125 ∷ []) }
+    ensures utf8 { OnOk result (IsUtf8 out.old.items → IsUtf8 out.new.items) }
 {
     out.push(b'{')?;
     for (i, member) in members.iter().enumerate() {
@@ -113,7 +116,8 @@ fn write_members(out: &mut Vec<u8>, members: &[Member]) -> Result<(), AllocError
 
 #[cycle(write)]
 fn write_member(out: &mut Vec<u8>, member: &Member) -> Result<(), AllocError>
-    ensures { OnOk result (out.new.items ≡ out.old.items ++ written_member member.now) }
+    ensures spelling { OnOk result (out.new.items ≡ out.old.items ++ written_member member.now) }
+    ensures utf8 { OnOk result (IsUtf8 out.old.items → IsUtf8 out.new.items) }
 {
     write_text(out, member.name.get().as_bytes())?;
     out.push(b':')?;
@@ -132,7 +136,8 @@ pub fn write_behind(bytes: Vec<u8>, tree: &Json) -> Result<Vec<u8>, AllocError>
 
 /// The one spelling of a tree, as `write_behind` gives it, alone. Fails for want of memory alone.
 pub fn write(alloc: Global, tree: &Json) -> Result<Bytes, AllocError>
-    ensures { IfOk result (λ bytes. bytes ≡ written tree.now) }
+    ensures spelling { IfOk result (λ bytes. bytes ≡ written tree.now) }
+    ensures utf8 { IfOk result (λ bytes. IsUtf8 bytes) }
 {
     let out = write_behind(Vec::with_capacity(alloc, FIRST_ROOM)?, tree)?;
     Ok(Bytes::new(out))
