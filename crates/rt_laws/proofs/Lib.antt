@@ -1,0 +1,16 @@
+mod Allowed
+mod Among
+mod Columns
+mod Due
+mod Fans
+mod Given
+mod Good
+mod Grows
+mod Lists
+mod Marks
+mod Plain
+mod Sent
+mod Shapes
+mod Sound
+mod Unique
+mod Untouched

@@ -1,0 +1,4 @@
+pub mod After
+pub mod Changes
+pub mod Fan
+pub mod Served
