@@ -1,18 +1,15 @@
 -- By what a message of a poll was due.
-use Rattle.std.proofs.Common.{◌≡◌, ◌⊎◌, ℕ, ◌+◌, ◌<◌, ◌≤◌, Bool, true, false, ◌&&◌, not, cond, List, [], ◌∷◌, ◌++◌, map, length, Option, Some, None, refl, sym, ap, subst, ◌∙◌, arith, inl, inr}
-use Rattle.std.specs.Prelude.{⊤, ◌==◌, All, Contains}
+use Rattle.std.proofs.Common.{◌≡◌, ℕ, ◌<◌, Bool, true, false, ◌&&◌, cond, List, [], ◌∷◌, map, length, Option, Some, None, refl, sym, ap, subst, ◌∙◌, arith, inl, inr}
+use Rattle.std.specs.Prelude.{◌==◌, Contains}
 use Rattle.std.specs.List.{filter, filter_map, flat_map, enumerate_from}
 use Rattle.std.proofs.lemmas.Bool.Decides.{eqb_tells}
 use Rattle.rt_value.specs.declared.row.Row.{Row}
 use Rattle.rt_value.specs.Tables.{rows_of_table}
-use Rattle.rt_json.specs.declared.tree.Json.{Json}
-use Rattle.rt_json.specs.Lookup.{member_of}
 use Rattle.rt_phx.specs.declared.message.Message.{Message}
 use Rattle.rt_filter.specs.declared.subscription.Subscription.{Subscription}
 use Rattle.rt_catalog.specs.declared.catalog.Catalog.{Catalog}
 use Rattle.rt_registry.specs.Bindings.{subscription_of, is_of_table}
 use Rattle.rt_change.specs.declared.change.Change.{Change}
-use Rattle.rt_change.specs.declared.decision.Verdict.{Verdict}
 use Rattle.rt_change.specs.declared.decision.Verdict.TheVariants.{Deliver, Error400, Error401}
 use Rattle.rt_change.specs.Verdicts.{verdict_of, is_sent, is_truncate, lacks_key, hides_key}
 use Rattle.rt_change.specs.Shape.{shape_of}
@@ -21,15 +18,14 @@ use Rattle.rt_entry.specs.declared.input.Input.TheVariants.{Poll}
 use Rattle.rt_entry.specs.declared.input.Settings.{Settings}
 use Rattle.rt_entry.specs.declared.story.Member.{Member}
 use Rattle.rt_entry.specs.declared.story.Part.{Part}
-use Rattle.rt_entry.specs.declared.story.Part.TheVariants.{Tells}
 use Rattle.rt_entry.specs.declared.answer.Answer.{Answer}
 use Rattle.rt_entry.specs.declared.answer.Answer.TheVariants.{Opened, Says, Ended}
 use Rattle.rt_entry.specs.declared.entry.ChannelView.{ChannelView}
-use Rattle.rt_entry.specs.Story.{Story, Now, now_of, tables_left}
+use Rattle.rt_entry.specs.Story.{Story, now_of, tables_left}
 use Rattle.rt_entry.specs.Messages.{change_message}
 use Rattle.rt_entry.specs.Doings.{story, doings, subscriptions_of, subscriptions, view_of, gets, change_parts, change_parts_to, change_parts_to_all, poll_parts}
 use Rattle.rt_entry.specs.Answers.{answer_of, answers_by, answers}
-use Rattle.rt_entry.specs.Access.{IsSentBy, IsRecordName, IsDeliveredTo, ShowsOnly, IsDueBy}
+use Rattle.rt_entry.specs.Access.{IsSentBy, IsDeliveredTo, IsDueBy}
 use Rattle.rt_laws.specs.Changes.{HasOneVerdict}
 use Rattle.rt_laws.proofs.Among.{Among, to_contains, from_contains, among_flat, among_map, among_filter, among_filter_map}
 use Rattle.rt_laws.proofs.Plain.{AllOf, all_weaker, all_themselves}

@@ -1,14 +1,14 @@
 -- What a slot was given, one push after another.
-use Rattle.std.proofs.Common.{◌≡◌, ◌⊎◌, ℕ, zero, suc, ◌+◌, ◌<◌, ◌≤◌, Bool, true, false, not, cond, List, [], ◌∷◌, ◌++◌, length, take, drop, Option, Some, None, refl, sym, ap, subst, ◌∙◌, arith, append_assoc, append-nil, inl, inr, ltb, eqb}
+use Rattle.std.proofs.Common.{◌≡◌, ◌⊎◌, ℕ, zero, suc, ◌+◌, ◌<◌, ◌≤◌, Bool, true, false, List, [], ◌∷◌, ◌++◌, length, take, drop, Some, None, refl, sym, ap, subst, ◌∙◌, arith, append-nil, inl, inr, ltb, eqb}
 use Rattle.std.specs.Prelude.{⊤, ◌≢◌}
-use Rattle.std.specs.List.{filter, flat_map, list_any}
+use Rattle.std.specs.List.{filter, flat_map}
 use Rattle.std.proofs.lemmas.List.Concat.{flat_map-append}
 use Rattle.std.proofs.lemmas.List.{take-append-le, take-append-drop, length-take, length-append}
 use Rattle.std.proofs.lemmas.Bool.Decides.{nat_tests, eqb_tells}
 use Rattle.rt_phx.specs.declared.end.EndName.TheVariants.{OutboxFull}
 use Rattle.rt_entry.specs.declared.answer.Item.{Item}
-use Rattle.rt_entry.specs.declared.answer.Item.TheVariants.{Message, End}
-use Rattle.rt_entry.specs.Machine.{Cut, Placed, opening_after, placed_from, placed, is_of_opening, cut_of, is_cut, shown_by, shown_at, shown, is_uncut}
+use Rattle.rt_entry.specs.declared.answer.Item.TheVariants.{End}
+use Rattle.rt_entry.specs.Machine.{Cut, Placed, opening_after, placed_from, placed, cut_of, is_cut, shown_by, shown_at, shown, is_uncut}
 use Rattle.rt_laws.proofs.Lists.{take_add, drop_add, take_step, drop_within}
 
 abbrev pub Numbered : ℕ → List Placed → Type 0

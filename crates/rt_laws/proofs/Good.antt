@@ -1,24 +1,22 @@
 -- Every step keeps what holds of each lane and each slot.
-use Rattle.std.proofs.Common.{◌≡◌, ◌⊎◌, ℕ, zero, suc, ◌+◌, ◌-◌, ◌%◌, ◌<◌, ◌≤◌, Bool, true, false, cond, ◌&&◌, List, [], ◌∷◌, ◌++◌, length, take, drop, Option, Some, None, refl, sym, ap, subst, ◌∙◌, arith, append_assoc, append-nil, length-append, inl, inr, eqb}
+use Rattle.std.proofs.Common.{◌≡◌, ℕ, ◌+◌, ◌-◌, ◌≤◌, Bool, true, false, List, [], ◌∷◌, ◌++◌, length, take, drop, Option, Some, None, refl, sym, ap, subst, ◌∙◌, arith, length-append, inl, inr}
 use Rattle.std.specs.Prelude.{◌==◌, nat_lt, nat_le, ◌≢◌}
 use Rattle.std.specs.List.{filter}
 use Rattle.std.proofs.lemmas.Bool.Decides.{eqb_tells}
 use Rattle.std.proofs.lemmas.List.{take-append-le, take-append-drop}
 use Rattle.std.proofs.Math.Seq.{take-length}
-use Rattle.rt_phx.specs.declared.end.EndName.TheVariants.{OutboxFull}
 use Rattle.rt_catalog.specs.declared.catalog.Catalog.{Catalog}
 use Rattle.rt_entry.specs.declared.input.Input.{Input}
 use Rattle.rt_entry.specs.declared.input.Settings.{Settings}
 use Rattle.rt_entry.specs.declared.input.Step.{Step}
 use Rattle.rt_entry.specs.declared.input.Step.TheVariants.{Arrive, Feed, Take, TakeFeed, TakeClock, Send, Work, Push, Pop}
 use Rattle.rt_entry.specs.declared.answer.Item.{Item}
-use Rattle.rt_entry.specs.declared.answer.Item.TheVariants.{Message, End}
 use Rattle.rt_entry.specs.Answers.{Mark, marks_of, lane_marks, answers_of_marks, items_for, due, told}
-use Rattle.rt_entry.specs.Machine.{Cut, Slot, Lane, World, start, Placed, placed, shown, is_uncut, Outcome, done, empty, full, spent, rows_full, with_at, with_slot, with_lane, with_given, with_cut, outbox, slot_of, lane_of, lane_in, worked_items, pending, rows_left, take_input, take_first, put_inlet, put_feed, put_clock, arrive, arrive_at, feed_with, is_tick, send, work, is_full_for, push, pop, step_of, run, IsAtRest}
+use Rattle.rt_entry.specs.Machine.{Cut, Slot, Lane, World, start, Placed, placed, shown, is_uncut, Outcome, done, empty, full, spent, rows_full, with_at, with_slot, with_lane, with_given, with_cut, outbox, slot_of, lane_of, worked_items, pending, rows_left, take_first, put_inlet, put_feed, put_clock, arrive, arrive_at, feed_with, is_tick, send, work, is_full_for, push, pop, step_of, run, IsAtRest}
 use Rattle.rt_entry.specs.Headline.{IsPrefixOf, IsServed}
 use Rattle.rt_laws.proofs.Lists.{take_add}
-use Rattle.rt_laws.proofs.Given.{IsGiven, Front, front_of, numbered, numbered_drop, Numbered, give, cut_short, more_items, given_prefix, given_all}
-use Rattle.rt_laws.proofs.Marks.{lane_due, lane_more, lane_none, no_marks, told_none, items_more}
+use Rattle.rt_laws.proofs.Given.{IsGiven, front_of, numbered, numbered_drop, Numbered, give, cut_short, more_items, given_prefix, given_all}
+use Rattle.rt_laws.proofs.Marks.{lane_due, lane_more, lane_none, no_marks, items_more}
 
 pub with_all : {A : Type 0} (P : ℕ → A → Type 0) (f : ℕ → A) (n : ℕ) (x : A) → P n x → ((m : ℕ) → P m (f m)) → (m : ℕ) → P m (with_at f n x m)
 with_all P f n x h all m = elim (eqb_tells m n) [

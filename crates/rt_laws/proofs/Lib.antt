@@ -1,16 +1,16 @@
 mod Allowed
-mod Among
+pub mod Among
 mod Columns
 mod Due
-mod Fans
-mod Given
-mod Good
-mod Grows
-mod Lists
-mod Marks
-mod Plain
+pub mod Fans
+pub mod Given
+pub mod Good
+pub mod Grows
+pub mod Lists
+pub mod Marks
+pub mod Plain
 mod Sent
-mod Shapes
-mod Sound
+pub mod Shapes
+pub mod Sound
 mod Unique
-mod Untouched
+pub mod Untouched

@@ -1,8 +1,7 @@
 -- What holds of each element of a list, by recursion.
-use Rattle.std.proofs.Common.{◌≡◌, ◌⊎◌, ℕ, ◌+◌, ◌<◌, ◌≤◌, Bool, true, false, ◌||◌, ◌&&◌, not, cond, List, [], ◌∷◌, ◌++◌, map, reverse, length, Option, Some, None, refl, sym, ap, subst, ◌∙◌, append_assoc, append-nil, arith, inl, inr, eqb}
-use Rattle.std.specs.Prelude.{⊤, ◌==◌, find}
-use Rattle.std.specs.List.{filter, filter_map, flat_map, list_any}
-use Rattle.std.proofs.lemmas.Bool.Decides.{eqb_tells, nat_tests}
+use Rattle.std.proofs.Common.{◌≡◌, ◌⊎◌, Bool, true, false, ◌||◌, ◌&&◌, not, cond, List, [], ◌∷◌, ◌++◌, map, reverse, length, Option, Some, None, refl, ap, subst, ◌∙◌, arith, inl, inr}
+use Rattle.std.specs.Prelude.{⊤, find}
+use Rattle.std.specs.List.{filter, flat_map, list_any}
 use Rattle.rt_laws.proofs.Among.{Among}
 
 abbrev pub AllOf : {A : Type 0} → (A → Type 0) → List A → Type 0

@@ -1,7 +1,6 @@
 -- The verdict of what is sent.
-use Rattle.std.proofs.Common.{◌≡◌, ◌⊎◌, ℕ, Bool, true, false, ◌&&◌, not, cond, List, [], ◌∷◌, Option, Some, None, refl, sym, ap, subst, ◌∙◌}
+use Rattle.std.proofs.Common.{◌≡◌, ℕ, Bool, true, false, ◌&&◌, not, cond, [], ◌∷◌, Option, Some, None, refl}
 use Rattle.std.specs.Prelude.{option_map}
-use Rattle.rt_value.specs.declared.row.Row.{Row}
 use Rattle.rt_value.specs.Choice.{first_case}
 use Rattle.rt_policy.specs.declared.caller.Seen.{Seen}
 use Rattle.rt_policy.specs.declared.caller.Seen.TheVariants as seen
@@ -13,7 +12,7 @@ use Rattle.rt_change.specs.declared.change.Change.{Change}
 use Rattle.rt_change.specs.declared.decision.Verdict.{Verdict}
 use Rattle.rt_change.specs.declared.decision.Verdict.TheVariants.{Deliver, Error400, Error401, Denied}
 use Rattle.rt_change.specs.declared.decision.Denial.TheVariants.{Event, Filter}
-use Rattle.rt_change.specs.Verdicts.{Tables, asks_for, writes, lacks_key, hides_key, passes_filter, row_of, verdict_of_seen, verdict_of_row, judged_row, verdict_of, is_sent}
+use Rattle.rt_change.specs.Verdicts.{Tables, asks_for, writes, lacks_key, hides_key, passes_filter, row_of, verdict_of_row, judged_row, verdict_of, is_sent}
 
 -- of what is sent the verdict is a matter of the role alone
 abbrev pub sent_verdict : Catalog → ℕ → Change → Verdict

@@ -1,6 +1,6 @@
 -- Every line of a journal's story is sound.
-use Rattle.std.proofs.Common.{◌≡◌, ◌⊎◌, ℕ, zero, suc, ◌+◌, ◌<◌, ◌≤◌, Bool, true, false, ◌||◌, ◌&&◌, not, cond, List, [], ◌∷◌, ◌++◌, map, length, Option, Some, None, refl, sym, ap, subst, ◌∙◌, append_assoc, append-nil, length-append, arith, inl, inr, eqb}
-use Rattle.std.specs.Prelude.{⊤, ◌==◌, ◌≢◌}
+use Rattle.std.proofs.Common.{◌≡◌, ◌⊎◌, ℕ, ◌<◌, ◌≤◌, Bool, true, false, ◌||◌, ◌&&◌, not, cond, List, [], ◌∷◌, ◌++◌, map, length, Option, Some, None, refl, sym, ap, subst, ◌∙◌, append-nil, arith, inl, inr, eqb}
+use Rattle.std.specs.Prelude.{⊤, ◌==◌}
 use Rattle.std.specs.List.{filter, filter_map, flat_map, list_any}
 use Rattle.std.proofs.lemmas.Bool.Decides.{nat_tests, eqb_tells}
 use Rattle.std.proofs.lemmas.List.Concat.{flat_map-append}
@@ -13,10 +13,10 @@ use Rattle.rt_entry.specs.declared.story.Member.{Member}
 use Rattle.rt_entry.specs.declared.story.Track.{Track}
 use Rattle.rt_entry.specs.declared.story.Part.{Part}
 use Rattle.rt_entry.specs.declared.story.Part.TheVariants.{Opens, Ends, Tells, Joins, Renews, Tracks, Untracks, Departs}
-use Rattle.rt_entry.specs.Story.{Line, Story, Now, now_of, joined, joined_by, departed, departed_by, departed_in, renewed_by, first_or, has, members_at, member_in, claims_at, standing_of, tracked_by, all_tracks, is_last, standing_tracks, edits_at, tables_of, tables_left}
+use Rattle.rt_entry.specs.Story.{Line, Story, now_of, joined, joined_by, departed, departed_by, departed_in, renewed_by, first_or, has, members_at, member_in, claims_at, standing_of, tracked_by, all_tracks, is_last, standing_tracks, edits_at, tables_of, tables_left}
 use Rattle.rt_entry.specs.Doings.{doings, story}
 use Rattle.rt_laws.specs.After.{joins_of, new_member, with_standing, tracks_in, after}
-use Rattle.rt_laws.proofs.Plain.{AllOf, all_append, all_filter, all_map_of, all_weaker, all_every, any_append, filter_all}
+use Rattle.rt_laws.proofs.Plain.{AllOf, all_append, all_filter, all_map_of, all_weaker, any_append}
 use Rattle.rt_laws.proofs.Shapes.{Plain, Quiet, Below, Shape, plain, joining, tracking, fine_for, shape_doings}
 use Rattle.rt_laws.proofs.Grows.{Tagged, is_held, IsSound, remains_by, joined_grows, members_grow, now_grows}
 

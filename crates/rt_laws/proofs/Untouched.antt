@@ -1,5 +1,5 @@
 -- What a step leaves as it was.
-use Rattle.std.proofs.Common.{◌≡◌, ◌⊎◌, ℕ, ◌+◌, ◌-◌, ◌<◌, ◌≤◌, Bool, true, false, cond, ◌&&◌, List, [], ◌∷◌, ◌++◌, length, Option, Some, None, refl, sym, ap, subst, ◌∙◌, arith, inl, inr, eqb}
+use Rattle.std.proofs.Common.{◌≡◌, ◌⊎◌, ℕ, ◌+◌, ◌-◌, ◌≤◌, Bool, true, false, ◌&&◌, List, [], ◌∷◌, ◌++◌, length, Option, Some, None, refl, ap, subst, arith, inl, inr}
 use Rattle.std.specs.Prelude.{◌==◌, nat_lt, nat_le, ◌≢◌}
 use Rattle.std.proofs.lemmas.Bool.Decides.{nat_tests, eqb_tells}
 use Rattle.rt_catalog.specs.declared.catalog.Catalog.{Catalog}
@@ -9,7 +9,7 @@ use Rattle.rt_entry.specs.declared.input.Step.{Step}
 use Rattle.rt_entry.specs.declared.input.Step.TheVariants.{Arrive, Feed, Take, TakeFeed, TakeClock, Send, Work, Push, Pop}
 use Rattle.rt_entry.specs.declared.answer.Item.{Item}
 use Rattle.rt_entry.specs.Answers.{lane_marks}
-use Rattle.rt_entry.specs.Machine.{Cut, Slot, Lane, World, Placed, Outcome, done, empty, full, spent, rows_full, with_at, with_slot, with_lane, with_given, with_cut, outbox, messages_in, is_message, slot_of, pending, rows_left, take_input, take_first, put_inlet, put_feed, put_clock, arrive, arrive_at, feed_with, is_tick, send, work, is_full_for, push, pop, step_of}
+use Rattle.rt_entry.specs.Machine.{Cut, Slot, Lane, World, Placed, Outcome, done, empty, full, spent, rows_full, with_at, with_slot, with_lane, with_given, with_cut, outbox, messages_in, is_message, slot_of, pending, rows_left, take_first, put_inlet, put_feed, put_clock, arrive, arrive_at, feed_with, is_tick, send, work, is_full_for, push, pop, step_of}
 use Rattle.rt_entry.specs.Headline.{IsUntouched, IsOwnCut, KeepsTheRest}
 use Rattle.rt_laws.proofs.Good.{with_all}
 
@@ -105,12 +105,12 @@ module _ (c : Catalog) (s : Settings) where
   pop_kept w n (i ∷ is) slot ne = other_kept w n (record (w.slots n) { popped = (w.slots n).popped + 1 }) slot ne
 
   -- a step that pushes or pops the slot itself
-  abbrev Serves : ℕ → Step → Type 0
+  abbrev pub Serves : ℕ → Step → Type 0
   Serves slot (Push n) = n ≡ slot
   Serves slot (Pop n) = n ≡ slot
   Serves slot _ = ⊥
 
-  untouched : (w : World) (x : Step) (slot : ℕ) → (Serves slot x → ⊥) → IsUntouched w (step_of c s w x).1 slot
+  pub untouched : (w : World) (x : Step) (slot : ℕ) → (Serves slot x → ⊥) → IsUntouched w (step_of c s w x).1 slot
   unfolding step_of
   untouched w (Arrive i) slot ne = at_kept w i (slot_of i) slot
   untouched w (Feed i) slot ne = fed_kept w i slot
