@@ -6,8 +6,11 @@ pub mod Fans
 pub mod Given
 pub mod Good
 pub mod Grows
+mod Keys
 pub mod Lists
 pub mod Marks
+mod Metas
+mod Moves
 pub mod Plain
 mod Sent
 pub mod Shapes

@@ -2,3 +2,4 @@ pub mod After
 pub mod Changes
 pub mod Fan
 pub mod Served
+pub mod Views
