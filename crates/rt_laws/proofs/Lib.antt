@@ -1,0 +1,19 @@
+mod Allowed
+pub mod Among
+mod Columns
+mod Due
+pub mod Fans
+pub mod Given
+pub mod Good
+pub mod Grows
+mod Keys
+pub mod Lists
+pub mod Marks
+mod Metas
+mod Moves
+pub mod Plain
+mod Sent
+pub mod Shapes
+pub mod Sound
+mod Unique
+pub mod Untouched

@@ -1,0 +1,5 @@
+pub mod After
+pub mod Changes
+pub mod Fan
+pub mod Served
+pub mod Views
