@@ -127,7 +127,8 @@ fn write_member(out: &mut Vec<u8>, member: &Member) -> Result<(), AllocError>
 /// The one spelling of a tree behind the bytes that are given: no blanks, the members in order, and no escape that isn't
 /// needed. Fails for want of memory alone, and then the bytes are gone.
 pub fn write_behind(bytes: Vec<u8>, tree: &Json) -> Result<Vec<u8>, AllocError>
-    ensures { IfOk result (λ all. all.items ≡ bytes.items ++ written tree.now) }
+    ensures spelling { IfOk result (λ all. all.items ≡ bytes.items ++ written tree.now) }
+    ensures utf8 { IfOk result (λ all. IsUtf8 bytes.items → IsUtf8 all.items) }
 {
     let mut out = bytes;
     write_value(&mut out, tree)?;
