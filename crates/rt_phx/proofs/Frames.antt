@@ -106,4 +106,5 @@ answer_only one version bytes (Err BadFrame) h m x = let none : None ≡ Some m 
 pub answer_bad : OneMessage → (version : Version) (bytes : List ℕ) (r : Result Message PhxFault) → IsComputed (message_of version bytes) r
     → ((m : Message) → IsMessage version bytes m → ⊥) → IsBadFrame r
 answer_bad one version bytes (Ok m) h none = none m ((one.computed version bytes m).1 h)
-answer_bad one version bytes (Err fault) h none = tt
+answer_bad one version bytes (Err BadFrame) h none = tt
+answer_bad one version bytes (Err NoMemory) h none = tt

@@ -25,9 +25,11 @@ IsAnswer (Ok found) message = found ≡ message
 IsAnswer (Err NoMemory) message = Unit {0}
 IsAnswer (Err BadFrame) message = ⊥
 
+-- it is a bad frame, unless memory ran out
 abbrev pub IsBadFrame : Result Message PhxFault → Type 0
 IsBadFrame (Ok found) = ⊥
-IsBadFrame (Err fault) = Unit {0}
+IsBadFrame (Err BadFrame) = Unit {0}
+IsBadFrame (Err NoMemory) = Unit {0}
 
 -- it is the message that is computed, and there is none of a bad frame
 abbrev pub IsComputed : Option Message → Result Message PhxFault → Type 0

@@ -8,7 +8,7 @@ mod end;
 mod fault;
 mod message;
 mod parts;
-mod saying;
+pub mod saying;
 #[cfg(test)]
 mod tests;
 pub mod trees;
@@ -18,4 +18,3 @@ pub use encoding::{encode, encoded_again};
 pub use end::EndName;
 pub use fault::PhxFault;
 pub use message::{Message, Version};
-pub use saying::{broadcast, change, close, failed, reply_error, reply_ok, said_on, subscribed};

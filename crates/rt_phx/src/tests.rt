@@ -1,26 +1,30 @@
-use crate::{
-    EndName, Message, PhxFault, Version, broadcast, change, close, decode, encode, failed,
-    reply_error, reply_ok, said_on, subscribed,
-};
+use crate::saying::{broadcast, change, close, failed, reply_error, reply_ok, said_on, subscribed};
+use crate::{EndName, Message, PhxFault, Version, decode, encode};
 use rt_json::Json;
 use std::alloc::Global;
 use std::test::Fail;
 
-/// The one spelling, in a version, of what a frame says in a version; `bad` where it says nothing.
-fn respelled(alloc: Global, read: Version, frame: &[u8], write: Version) -> Result<String, Fail> {
-    match decode(alloc, read, frame) {
-        Ok(message) => {
-            let bytes = encode(alloc, write, &message.copy(alloc)?)?;
-            Ok(String::from_utf8(bytes.into_inner())?)
-        }
-        Err(PhxFault::BadFrame) => Ok(String::from_str(alloc, "bad")?),
-        Err(fault) => Err(fault)?,
+fn is_bad(alloc: Global, version: Version, frame: &[u8]) -> bool {
+    match decode(alloc, version, frame) {
+        Err(PhxFault::BadFrame) => true,
+        _ => false,
     }
+}
+
+/// Whether what a frame of one version says is spelled so in the other.
+fn is_spelled(
+    alloc: Global,
+    (from, frame): (Version, &str),
+    (to, spelling): (Version, &str),
+) -> Result<bool, Fail> {
+    let message = decode(alloc, from, frame.as_bytes())?.copy(alloc)?;
+    let bytes = encode(alloc, to, &message)?;
+    Ok(bytes.get() == spelling.as_bytes())
 }
 
 #[test]
 fn objects(rt: HostRuntime) -> Result<(), Fail> {
-    for (frame, list) in [
+    for (object, list) in [
         (
             "{\"topic\":\"t\",\"event\":\"e\"}",
             "[null,null,\"t\",\"e\",{}]",
@@ -37,23 +41,16 @@ fn objects(rt: HostRuntime) -> Result<(), Fail> {
             "{\"topic\":\"t\",\"event\":\"e\",\"ref\":\"1\",\"topic\":\"u\",\"more\":[]}",
             "[null,\"1\",\"u\",\"e\",{}]",
         ),
-        ("{\"topic\":\"t\",\"event\":\"e\",\"topic\":1}", "bad"),
-        ("{\"topic\":1,\"event\":\"e\"}", "bad"),
-        ("{\"topic\":\"t\"}", "bad"),
-        ("{\"topic\":\"t\",\"event\":\"e\",\"ref\":true}", "bad"),
-        ("{\"topic\":\"t\",\"event\":\"e\",\"join_ref\":[]}", "bad"),
-        ("[null,\"2\",\"phoenix\",\"heartbeat\",null]", "bad"),
-        ("", "bad"),
     ] {
-        let said = respelled(rt.alloc(), Version::V1, frame.as_bytes(), Version::V2)?;
-        assert_eq!(rt; said.as_str(), list, "of {frame}");
+        let same = is_spelled(rt.alloc(), (Version::V1, object), (Version::V2, list))?;
+        assert!(rt; same, "of {object}");
     }
     Ok(())
 }
 
 #[test]
 fn lists(rt: HostRuntime) -> Result<(), Fail> {
-    for (frame, object) in [
+    for (list, object) in [
         (
             "[null,\"2\",\"phoenix\",\"heartbeat\",null]",
             "{\"topic\":\"phoenix\",\"event\":\"heartbeat\",\"payload\":null,\"ref\":\"2\"}",
@@ -62,18 +59,39 @@ fn lists(rt: HostRuntime) -> Result<(), Fail> {
             " [ \"1\" , 1.50 , \"t\" , \"e\" , {\"a\":1,\"a\":2} ] ",
             "{\"topic\":\"t\",\"event\":\"e\",\"payload\":{\"a\":1,\"a\":2},\"ref\":1.50}",
         ),
-        ("[\"1\",\"5\",\"realtime:t\",", "bad"),
-        ("[null,\"2\",\"t\",\"e\"]", "bad"),
-        ("[null,\"2\",\"t\",\"e\",{},{}]", "bad"),
-        ("[null,\"2\",7,\"e\",{}]", "bad"),
-        ("[null,\"2\",\"t\",null,{}]", "bad"),
-        ("[null,{},\"t\",\"e\",{}]", "bad"),
-        ("[false,\"2\",\"t\",\"e\",{}]", "bad"),
-        ("{\"topic\":\"t\",\"event\":\"e\"}", "bad"),
-        ("null", "bad"),
     ] {
-        let said = respelled(rt.alloc(), Version::V2, frame.as_bytes(), Version::V1)?;
-        assert_eq!(rt; said.as_str(), object, "of {frame}");
+        let same = is_spelled(rt.alloc(), (Version::V2, list), (Version::V1, object))?;
+        assert!(rt; same, "of {list}");
+    }
+    Ok(())
+}
+
+#[test]
+fn bad_frames(rt: HostRuntime) -> Result<(), Fail> {
+    for (version, frame) in [
+        (Version::V1, "{\"topic\":\"t\",\"event\":\"e\",\"topic\":1}"),
+        (Version::V1, "{\"topic\":1,\"event\":\"e\"}"),
+        (Version::V1, "{\"topic\":\"t\"}"),
+        (
+            Version::V1,
+            "{\"topic\":\"t\",\"event\":\"e\",\"ref\":true}",
+        ),
+        (
+            Version::V1,
+            "{\"topic\":\"t\",\"event\":\"e\",\"join_ref\":[]}",
+        ),
+        (Version::V1, "[null,\"2\",\"phoenix\",\"heartbeat\",null]"),
+        (Version::V1, ""),
+        (Version::V2, "[\"1\",\"5\",\"realtime:t\","),
+        (Version::V2, "[null,\"2\",\"t\",\"e\"]"),
+        (Version::V2, "[null,\"2\",\"t\",\"e\",{},{}]"),
+        (Version::V2, "[null,\"2\",7,\"e\",{}]"),
+        (Version::V2, "[null,\"2\",\"t\",null,{}]"),
+        (Version::V2, "[null,{},\"t\",\"e\",{}]"),
+        (Version::V2, "[false,\"2\",\"t\",\"e\",{}]"),
+        (Version::V2, "{\"topic\":\"t\",\"event\":\"e\"}"),
+    ] {
+        assert!(rt; is_bad(rt.alloc(), version, frame.as_bytes()), "of {frame}");
     }
     Ok(())
 }
@@ -101,9 +119,9 @@ fn the_longest_frame(rt: HostRuntime) -> Result<(), Fail> {
     let alloc = rt.alloc();
     let longest = frame_with(alloc, b"\"", b"a", 1_048_554, b"\"")?;
     assert_eq!(rt; longest.len(), 1_048_576);
-    assert!(rt; decode(alloc, Version::V2, longest.as_slice()).is_ok());
+    decode(alloc, Version::V2, longest.as_slice())?;
     let longer = frame_with(alloc, b"\"", b"a", 1_048_555, b"\"")?;
-    assert!(rt; decode(alloc, Version::V2, longer.as_slice()).is_err());
+    assert!(rt; is_bad(alloc, Version::V2, longer.as_slice()));
     Ok(())
 }
 
@@ -115,85 +133,83 @@ fn the_deepest_frame(rt: HostRuntime) -> Result<(), Fail> {
         close.push(b']')?;
     }
     let deepest = frame_with(alloc, b"", b"[", 63, close.as_slice())?;
-    assert!(rt; decode(alloc, Version::V2, deepest.as_slice()).is_ok());
+    decode(alloc, Version::V2, deepest.as_slice())?;
     close.push(b']')?;
     let deeper = frame_with(alloc, b"", b"[", 64, close.as_slice())?;
-    assert!(rt; decode(alloc, Version::V2, deeper.as_slice()).is_err());
+    assert!(rt; is_bad(alloc, Version::V2, deeper.as_slice()));
     Ok(())
 }
 
-fn said(alloc: Global, message: &Message) -> Result<String, Fail> {
+fn is_said(alloc: Global, message: &Message, frame: &[u8]) -> Result<bool, Fail> {
     let bytes = encode(alloc, Version::V2, message)?;
-    Ok(String::from_utf8(bytes.into_inner())?)
+    Ok(bytes.get() == frame)
 }
 
 fn leave(alloc: Global) -> Result<Message, Fail> {
-    Ok(decode(alloc, Version::V2, b"[null,\"2\",\"u\",\"phx_leave\",{}]")?)
+    let frame = b"[null,\"2\",\"u\",\"phx_leave\",{}]";
+    Ok(decode(alloc, Version::V2, frame)?)
 }
 
 #[test]
-fn replies_and_a_close(rt: HostRuntime) -> Result<(), Fail> {
+fn replies(rt: HostRuntime) -> Result<(), Fail> {
     let alloc = rt.alloc();
     let asked = leave(alloc)?;
     let ok = reply_ok(alloc, &asked.reference, &asked, Json::Null)?;
-    assert_eq!(rt;
-        said(alloc, &ok)?.as_str(),
-        "[\"2\",\"2\",\"u\",\"phx_reply\",{\"status\":\"ok\",\"response\":null}]"
-    );
+    let frame = b"[\"2\",\"2\",\"u\",\"phx_reply\",{\"status\":\"ok\",\"response\":null}]";
+    assert!(rt; is_said(alloc, &ok, frame)?);
     let error = reply_error(alloc, &Json::Null, &asked, "unmatched topic")?;
-    assert_eq!(rt;
-        said(alloc, &error)?.as_str(),
-        "[null,\"2\",\"u\",\"phx_reply\",{\"status\":\"error\",\"response\":{\"reason\":\"unmatched topic\"}}]"
-    );
-    let closed = close(alloc, &asked.reference, "realtime:t")?;
-    assert_eq!(rt;
-        said(alloc, &closed)?.as_str(),
-        "[\"2\",\"2\",\"realtime:t\",\"phx_close\",{}]"
-    );
+    let frame =
+        b"[null,\"2\",\"u\",\"phx_reply\",{\"status\":\"error\",\"response\":{\"reason\":\"unmatched topic\"}}]";
+    assert!(rt; is_said(alloc, &error, frame)?);
     Ok(())
 }
 
 #[test]
-fn broadcasts_and_changes(rt: HostRuntime) -> Result<(), Fail> {
+fn broadcasts(rt: HostRuntime) -> Result<(), Fail> {
     let alloc = rt.alloc();
-    let asked = leave(alloc)?;
-    let sent = broadcast(alloc, &asked.reference, "t", Json::Bool(true))?;
-    assert_eq!(rt;
-        said(alloc, &sent)?.as_str(),
-        "[\"2\",null,\"t\",\"broadcast\",true]"
-    );
-    let state = said_on(alloc, &asked.reference, "t", "presence_state", Json::Null)?;
-    assert_eq!(rt;
-        said(alloc, &state)?.as_str(),
-        "[\"2\",null,\"t\",\"presence_state\",null]"
-    );
-    let changed = change(
-        alloc,
-        &Json::Null,
-        "t",
-        &[1, 18_446_744_073_709_551_615],
-        Json::Null,
-    )?;
-    assert_eq!(rt;
-        said(alloc, &changed)?.as_str(),
-        "[null,null,\"t\",\"postgres_changes\",{\"ids\":[1,18446744073709551615],\"data\":null}]"
-    );
+    let sent = broadcast(alloc, &Json::Null, "t", Json::Bool(true))?;
+    assert!(rt; is_said(alloc, &sent, b"[null,null,\"t\",\"broadcast\",true]")?);
+    let state = said_on(alloc, &Json::Null, "t", "presence_state", Json::Null)?;
+    assert!(rt; is_said(alloc, &state, b"[null,null,\"t\",\"presence_state\",null]")?);
     Ok(())
 }
 
 #[test]
-fn system_messages_and_an_end(rt: HostRuntime) -> Result<(), Fail> {
+fn changes(rt: HostRuntime) -> Result<(), Fail> {
     let alloc = rt.alloc();
-    let coming = subscribed(alloc, &Json::Null, "realtime:t", "t")?;
-    assert_eq!(rt;
-        said(alloc, &coming)?.as_str(),
-        "[null,null,\"realtime:t\",\"system\",{\"message\":\"Subscribed to PostgreSQL\",\"status\":\"ok\",\"extension\":\"postgres_changes\",\"channel\":\"t\"}]"
+    let ids = [1, 18_446_744_073_709_551_615];
+    let changed = change(alloc, &Json::Null, "t", &ids, Json::Null)?;
+    let frame =
+        b"[null,null,\"t\",\"postgres_changes\",{\"ids\":[1,18446744073709551615],\"data\":null}]";
+    assert!(rt; is_said(alloc, &changed, frame)?);
+    Ok(())
+}
+
+#[test]
+fn ends_of_channels(rt: HostRuntime) -> Result<(), Fail> {
+    let alloc = rt.alloc();
+    let closed = close(alloc, &Json::Bool(true), "realtime:t")?;
+    assert!(rt;
+        is_said(
+            alloc,
+            &closed,
+            b"[true,true,\"realtime:t\",\"phx_close\",{}]"
+        )?
     );
     let expired = failed(alloc, &Json::Null, "realtime:t", "token expired", "t")?;
-    assert_eq!(rt;
-        said(alloc, &expired)?.as_str(),
-        "[null,null,\"realtime:t\",\"system\",{\"message\":\"token expired\",\"status\":\"error\",\"extension\":\"system\",\"channel\":\"t\"}]"
-    );
+    let frame =
+        b"[null,null,\"realtime:t\",\"system\",{\"message\":\"token expired\",\"status\":\"error\",\"extension\":\"system\",\"channel\":\"t\"}]";
+    assert!(rt; is_said(alloc, &expired, frame)?);
+    Ok(())
+}
+
+#[test]
+fn a_subscription(rt: HostRuntime) -> Result<(), Fail> {
+    let alloc = rt.alloc();
+    let coming = subscribed(alloc, &Json::Null, "realtime:t", "t")?;
+    let frame =
+        b"[null,null,\"realtime:t\",\"system\",{\"message\":\"Subscribed to PostgreSQL\",\"status\":\"ok\",\"extension\":\"postgres_changes\",\"channel\":\"t\"}]";
+    assert!(rt; is_said(alloc, &coming, frame)?);
     assert_eq!(rt; EndName::OutboxFull.text(), "outbox full");
     Ok(())
 }
