@@ -6,11 +6,13 @@ pub mod Fans
 pub mod Given
 pub mod Good
 pub mod Grows
+pub mod Journals
 mod Keys
 pub mod Lists
 pub mod Marks
 mod Metas
 mod Moves
+mod Once
 pub mod Plain
 mod Sent
 pub mod Shapes
