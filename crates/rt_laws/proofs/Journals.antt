@@ -1,21 +1,11 @@
 -- The story of every journal.
-use Rattle.std.proofs.Common.{◌≡◌, ◌⊎◌, ℕ, ◌<◌, ◌≤◌, Bool, true, false, ◌||◌, ◌&&◌, not, cond, List, [], ◌∷◌, ◌++◌, map, length, Option, Some, None, refl, sym, ap, subst, ◌∙◌, append-nil, arith, inl, inr, eqb}
-use Rattle.std.specs.Prelude.{⊤, ◌==◌}
-use Rattle.std.specs.List.{filter, filter_map, flat_map, list_any}
-use Rattle.std.proofs.lemmas.Bool.Decides.{nat_tests, eqb_tells}
-use Rattle.std.proofs.lemmas.List.Concat.{flat_map-append}
-use Rattle.std.proofs.lemmas.List.Elements.{filter_map-append}
+use Rattle.std.proofs.Common.{◌≡◌, List, [], ◌∷◌, length, refl, ap, ◌∙◌}
 use Rattle.rt_catalog.specs.declared.catalog.Catalog.{Catalog}
 use Rattle.rt_entry.specs.declared.input.Input.{Input}
 use Rattle.rt_entry.specs.declared.input.Settings.{Settings}
-use Rattle.rt_entry.specs.declared.story.Channel.{Channel}
-use Rattle.rt_entry.specs.declared.story.Member.{Member}
-use Rattle.rt_entry.specs.declared.story.Track.{Track}
-use Rattle.rt_entry.specs.declared.story.Part.{Part}
-use Rattle.rt_entry.specs.declared.story.Part.TheVariants.{Opens, Ends, Tells, Joins, Renews, Tracks, Untracks, Departs}
-use Rattle.rt_entry.specs.Story.{Line, Story, now_of, joined, joined_by, departed, departed_by, departed_in, renewed_by, first_or, has, members_at, member_in, claims_at, standing_of, tracked_by, all_tracks, is_last, standing_tracks, edits_at, tables_of, tables_left}
+use Rattle.rt_entry.specs.Story.{Line, Story, now_of, edits_at, tables_of, tables_left}
 use Rattle.rt_entry.specs.Doings.{doings, story}
-use Rattle.rt_laws.specs.After.{joins_of, new_member, with_standing, tracks_in, after}
+use Rattle.rt_laws.specs.After.{after}
 use Rattle.rt_laws.proofs.Shapes.{Shape, fine_for, shape_doings}
 use Rattle.rt_laws.proofs.Grows.{now_grows}
 use Rattle.rt_laws.proofs.Sound.{members_in, Shaped, held_below, members_apart, shape_sound}

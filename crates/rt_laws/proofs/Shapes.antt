@@ -1,5 +1,5 @@
 -- What the parts of an input may be: at most one channel joins, under the input's number, or a member tracks; only members depart or are renewed.
-use Rattle.std.proofs.Common.{◌≡◌, ℕ, ◌+◌, ◌<◌, Bool, true, false, not, List, [], ◌∷◌, ◌++◌, map, Option, Some, None, refl, inl, inr, sym, ap, ◌∙◌, ◌||◌, ◌⊎◌, cond, subst}
+use Rattle.std.proofs.Common.{◌≡◌, ℕ, ◌+◌, ◌<◌, Bool, true, false, not, List, [], ◌∷◌, ◌++◌, map, Option, Some, None, refl, inl, inr, sym, ap, ◌∙◌, ◌||◌, cond}
 use Rattle.std.specs.Prelude.{⊤, ◌==◌, codes, if◌then◌else◌, nat_lt, option_to_list, Ok, Err, find}
 use Rattle.std.specs.List.{filter, flat_map, list_any, enumerate_from}
 use Rattle.std.specs.Str.{bytes_eq}
