@@ -6,6 +6,7 @@ pub mod Fans
 pub mod Given
 pub mod Good
 pub mod Grows
+mod Hears
 pub mod Journals
 mod Keys
 pub mod Lists
