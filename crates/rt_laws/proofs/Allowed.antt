@@ -33,7 +33,8 @@ use Rattle.rt_laws.proofs.Plain.{AllOf, all_append, all_weaker, all_among}
 use Rattle.rt_laws.proofs.Shapes.{Fine, fine_for, Plain, Quiet, Shape, plain, joining, tracking}
 use Rattle.rt_laws.proofs.Marks.{answers_more, answers_none}
 use Rattle.rt_laws.proofs.Good.{serves_all}
-use Rattle.rt_laws.proofs.Sound.{members_in, shape_next, story_shaped}
+use Rattle.rt_laws.proofs.Sound.{members_in}
+use Rattle.rt_laws.proofs.Journals.{shape_next, story_shaped}
 use Rattle.rt_laws.proofs.Due.{message_said, changes_allowed}
 
 -- what is shown of an item is the item, or a terminator
@@ -132,7 +133,7 @@ fine_quiet (Departs k) h slot m e = absurd h
 
 fine_parts : (n : ℕ) (hs : List Member) (ps : List Part) → Shape true n hs ps → AllOf FinePart ps
 fine_parts n hs ps (plain h) = all_weaker (Plain true n) FinePart ps (fine_part n) h
-fine_parts n hs ps (joining front ch back f g k e) =
+fine_parts n hs ps (joining front ch back f g k room e) =
     subst (AllOf FinePart) (sym e)
     (all_append FinePart front (Joins ch ∷ back) (all_weaker (Plain true n) FinePart front (fine_part n) f) ((λ slot m x. absurd (cc)), all_weaker (Plain true n) FinePart back (fine_part n) g))
 fine_parts n hs ps (tracking front t back f g k lt e) =

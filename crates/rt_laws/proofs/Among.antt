@@ -76,3 +76,17 @@ option_or f x xs y (Some v) e g (inr h) = let r = g h in (r.0, inr r.1, r.2)
 pub among_filter_map : {A B : Type 0} (f : A → Option B) (xs : List A) (y : B) → Among (filter_map f xs) y → (x : A) × Among xs x × (f x ≡ Some y)
 among_filter_map f [] y h = absurd h
 among_filter_map f (x ∷ xs) y h = option_or f x xs y (f x) refl (among_filter_map f xs y) h
+
+among_or : {A : Type 0} (p : A → Bool) (x y : A) (fs : List A) (b : Bool) → p x ≡ b → p y ≡ true → (x ≡ y) ⊎ Among fs y → Among (cond b (x ∷ fs) fs) y
+among_or p x y fs true e k (inl i) = inl i
+among_or p x y fs true e k (inr i) = inr i
+among_or p x y fs false e k (inl i) = absurd (let z : false ≡ true = sym e ∙ ap p i ∙ k in cc)
+among_or p x y fs false e k (inr i) = i
+
+either_kept : {A : Type 0} (p : A → Bool) (x y : A) (xs : List A) → (x ≡ y) ⊎ Among xs y → (Among xs y → Among (filter p xs) y) → (x ≡ y) ⊎ Among (filter p xs) y
+either_kept p x y xs (inl i) f = inl i
+either_kept p x y xs (inr i) f = inr (f i)
+
+pub filter_among : {A : Type 0} (p : A → Bool) (xs : List A) (y : A) → Among xs y → p y ≡ true → Among (filter p xs) y
+filter_among p [] y h k = absurd h
+filter_among p (x ∷ xs) y h k = among_or p x y (filter p xs) (p x) refl k (either_kept p x y xs h (λ i. filter_among p xs y i k))

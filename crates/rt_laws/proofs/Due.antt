@@ -29,7 +29,8 @@ use Rattle.rt_entry.specs.Access.{IsSentBy, IsDeliveredTo, IsDueBy}
 use Rattle.rt_laws.specs.Changes.{HasOneVerdict}
 use Rattle.rt_laws.proofs.Among.{Among, to_contains, from_contains, among_flat, among_map, among_filter, among_filter_map}
 use Rattle.rt_laws.proofs.Plain.{AllOf, all_weaker, all_themselves}
-use Rattle.rt_laws.proofs.Sound.{Shaped, members_in, story_shaped}
+use Rattle.rt_laws.proofs.Sound.{Shaped, members_in}
+use Rattle.rt_laws.proofs.Journals.{story_shaped}
 use Rattle.rt_laws.proofs.Unique.{same_member}
 use Rattle.rt_laws.proofs.Columns.{all_from, shape_shows}
 use Rattle.rt_laws.proofs.Sent.{sent_verdict, verdict_when_sent}

@@ -1,5 +1,5 @@
 -- The keys of a presence state: each once.
-use Rattle.std.proofs.Common.{◌≡◌, ◌⊎◌, ℕ, Bool, true, false, ◌||◌, ◌&&◌, not, cond, List, [], ◌∷◌, ◌++◌, map, refl, sym, ap, subst, ◌∙◌, append-nil, inl, inr}
+use Rattle.std.proofs.Common.{◌≡◌, ℕ, Bool, true, false, ◌||◌, ◌&&◌, not, cond, List, [], ◌∷◌, ◌++◌, refl, sym, ap, ◌∙◌}
 use Rattle.std.specs.Prelude.{⊤}
 use Rattle.std.specs.List.{filter, flat_map, list_any}
 use Rattle.std.specs.Str.{bytes_eq}
@@ -11,7 +11,7 @@ use Rattle.std.proofs.lemmas.Map.Text.{is_eq-slice_cmp}
 use Rattle.std.proofs.lemmas.Slice.Eq.{bytes_eq-Decides}
 use Rattle.rt_value.specs.Ordered.{inserted_by, inserted, in_order}
 use Rattle.rt_laws.proofs.Plain.{AllOf, all_weaker, filter_alike, filter_and, all_every}
-use Rattle.rt_laws.proofs.Moves.{Moves, none, then_to, moves_same, moves_back, moves_right, moves_parts}
+use Rattle.rt_laws.proofs.Moves.{Moves, then_to, moves_same, moves_back, moves_right, moves_parts}
 
 abbrev by_bytes : List ℕ → List ℕ → Ordering
 by_bytes k l = slice_cmp nat_cmp k l

@@ -6,11 +6,14 @@ pub mod Fans
 pub mod Given
 pub mod Good
 pub mod Grows
+mod Hears
+pub mod Journals
 mod Keys
 pub mod Lists
 pub mod Marks
 mod Metas
 mod Moves
+mod Once
 pub mod Plain
 mod Sent
 pub mod Shapes

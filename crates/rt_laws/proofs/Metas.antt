@@ -1,6 +1,6 @@
 -- What a client reads of a state and of differences.
-use Rattle.std.proofs.Common.{◌≡◌, ◌⊎◌, ℕ, ◌<◌, Bool, true, false, ◌||◌, not, cond, List, [], ◌∷◌, ◌++◌, map, Option, Some, None, refl, sym, ap, subst, ◌∙◌, inl, inr}
-use Rattle.std.specs.Prelude.{⊤, ◌==◌, ◌^◌, codes, unwrap_or, IsPermutation}
+use Rattle.std.proofs.Common.{◌≡◌, ℕ, ◌<◌, Bool, true, false, ◌||◌, not, cond, List, [], ◌∷◌, ◌++◌, map, Option, Some, None, refl, sym, ap, ◌∙◌, inl, inr}
+use Rattle.std.specs.Prelude.{◌==◌, ◌^◌, codes, unwrap_or, IsPermutation}
 use Rattle.std.specs.Fmt.{decimal}
 use Rattle.std.specs.List.{filter, flat_map, list_any}
 use Rattle.std.specs.Str.{bytes_eq}
@@ -16,17 +16,16 @@ use Rattle.rt_json.specs.declared.tree.Json.{Json, Text, Row_of-Json, end_of-Jso
 use Rattle.rt_json.specs.declared.tree.Json.TheBlock.{hidden-the_row-Json-0}
 use Rattle.rt_json.specs.declared.tree.Json.TheVariants as j
 use Rattle.rt_json.specs.declared.tree.named.Member.{Member}
-use Rattle.rt_json.specs.Lookup.{or_else, last_named, members_of, member_of}
+use Rattle.rt_json.specs.Lookup.{or_else, last_named, members_of}
 use Rattle.rt_json.specs.Trees.{field, list_of, text_of, row_items}
 use Rattle.rt_phx.specs.Frame.{no_members}
-use Rattle.rt_phx.specs.declared.message.Message.{Message}
 use Rattle.rt_entry.specs.declared.story.Channel.{Channel}
 use Rattle.rt_entry.specs.declared.story.Track.{Track}
 use Rattle.rt_entry.specs.Messages.{meta_tree, metas_of, metas_tree, presence_state, presence_diff}
-use Rattle.rt_entry.specs.Presence.{Held, metas_under, metas_in, reference_of, part_of, is_among, after_difference, after_message, client_view, shown_meta}
+use Rattle.rt_entry.specs.Presence.{Held, metas_under, metas_in, reference_of, part_of, is_among, after_message, client_view, shown_meta}
 use Rattle.rt_laws.specs.Views.{Difference, leaves_in, after_differences, Fit, AllFit}
 use Rattle.rt_laws.proofs.Plain.{AllOf, all_append, all_filter, filter_alike, filter_map_swap, map_map}
-use Rattle.rt_laws.proofs.Moves.{Moves, none, then_to, moves_same, moves_map, moves_filter, moves_left, moves_right, moves_any, permuted}
+use Rattle.rt_laws.proofs.Moves.{Moves, then_to, moves_same, moves_map, moves_filter, moves_left, moves_right, moves_any, permuted}
 use Rattle.rt_laws.proofs.Keys.{IsIn, ordered_rises, ordered_has, of_key, group, grouped}
 use Rattle.rt_laws.proofs.Columns.{object_members, object_at}
 

@@ -1,9 +1,10 @@
 -- What the parts of an input may be: at most one channel joins, under the input's number, or a member tracks; only members depart or are renewed.
-use Rattle.std.proofs.Common.{◌≡◌, ℕ, ◌+◌, ◌<◌, Bool, true, false, not, List, [], ◌∷◌, ◌++◌, map, Option, Some, None, refl, inl, inr}
-use Rattle.std.specs.Prelude.{⊤, ◌==◌, codes, if◌then◌else◌, nat_lt, option_to_list, Ok, Err}
+use Rattle.std.proofs.Common.{◌≡◌, ℕ, ◌+◌, ◌<◌, Bool, true, false, not, List, [], ◌∷◌, ◌++◌, map, Option, Some, None, refl, inl, inr, sym, ap, ◌∙◌, ◌||◌, cond}
+use Rattle.std.specs.Prelude.{⊤, ◌==◌, codes, if◌then◌else◌, nat_lt, option_to_list, Ok, Err, find}
 use Rattle.std.specs.List.{filter, flat_map, list_any, enumerate_from}
 use Rattle.std.specs.Str.{bytes_eq}
 use Rattle.std.proofs.lemmas.Bool.Decides.{eqb_tells}
+use Rattle.std.proofs.lemmas.Slice.Eq.{bytes_eq-Decides}
 use Rattle.rt_value.specs.declared.row.Row.{Row}
 use Rattle.rt_value.specs.declared.claims.Claims.{Claims}
 use Rattle.rt_json.specs.Lookup.{member_of}
@@ -31,11 +32,11 @@ use Rattle.rt_entry.specs.declared.story.Track.{Track}
 use Rattle.rt_entry.specs.declared.story.Part.{Part}
 use Rattle.rt_entry.specs.declared.story.Part.TheVariants.{Opens, Ends, Tells, Joins, Renews, Tracks, Untracks, Departs}
 use Rattle.rt_entry.specs.declared.entry.ChannelView.{ChannelView}
-use Rattle.rt_entry.specs.Story.{Now, Standing, departed_in}
+use Rattle.rt_entry.specs.Story.{Now, Standing, departed_in, has}
 use Rattle.rt_entry.specs.Messages.{subscribed_message, presence_state, joined_response}
 use Rattle.rt_entry.specs.Joining.{Checked, ◌>>◌, or_why, demand, told_by, registry_text, channel_limit, binding_of, key_of, join_ref_of, asked_claims, channel_of_join, renewal_of}
 use Rattle.rt_entry.specs.Doings.{tell, in_turn, opening_in, is_of_slot, is_on, channels_of, channel_on, track_of, watches, diff_to, diffs, leave_diffs, depart, end_of, end_if_open, close, fail, tell_if, open_parts, has_bindings, present_on, join_result_parts, others, renewal_parts, gets_broadcast, broadcast_part, broadcast_parts, track_by, untrack_part, untrack_parts, is_shut, is_idle, has_run_out, tick_parts, departs_of, stop_parts, subscriptions, view_of, opening_of, join_over_former, join_parts, ask_parts, channel_parts, message_parts, frame_parts, gets, change_parts, change_parts_to, change_parts_to_all, poll_parts, doings}
-use Rattle.rt_laws.proofs.Among.{Among}
+use Rattle.rt_laws.proofs.Among.{Among, among_filter, filter_among}
 use Rattle.rt_laws.proofs.Plain.{AllOf, all_append, all_flat, all_map, all_map_of, all_filter, all_every, all_among, all_themselves, Maybe, find_of, any_among}
 
 -- only a poll says changes
@@ -70,14 +71,40 @@ Quiet b (Departs m) = ⊥
 abbrev pub Below : ℕ → Member → Type 0
 Below n h = h.channel.number < n
 
+-- every channel of the slot on the topic departs
+abbrev pub MakesRoom : List Member → Channel → List Part → Type 0
+MakesRoom members ch front = (h : Member) → Among members h → h.channel.slot ≡ ch.slot → h.channel.topic ≡ ch.topic → has h.channel.number (departed_in front) ≡ true
+
+-- a slot has one channel on a topic
+abbrev pub AreApart : List Member → Type 0
+AreApart members = (g h : Member) → Among members g → Among members h → g.channel.slot ≡ h.channel.slot → g.channel.topic ≡ h.channel.topic → g ≡ h
+
 pub data Shape (b : Bool) (n : ℕ) (members : List Member) (ps : List Part) : Type 0 where
   plain : AllOf (Plain b n) ps → Shape b n members ps
-  joining : (front : List Part) (ch : Channel) (back : List Part) → AllOf (Plain b n) front → AllOf (Plain b n) back → ch.number ≡ n → ps ≡ front ++ Joins ch ∷ back → Shape b n members ps
+  joining : (front : List Part) (ch : Channel) (back : List Part) → AllOf (Plain b n) front → AllOf (Plain b n) back → ch.number ≡ n → MakesRoom members ch front → ps ≡ front ++ Joins ch ∷ back → Shape b n members ps
   tracking : (front : List Part) (t : Track) (back : List Part) → AllOf (Quiet b) front → AllOf (Quiet b) back → list_any (λ (h : Member). h.channel.number == t.channel) members ≡ true → t.channel < n
       → ps ≡ front ++ Tracks t ∷ back → Shape b n members ps
 
 pub eqb_same : (n : ℕ) → (n == n) ≡ true
 eqb_same n = elim (eqb_tells n n) [ inl t ↦ t.0 | inr t ↦ absurd (t.1 refl) ]
+
+same_number : (n m : ℕ) → (n == m) ≡ true → n ≡ m
+same_number n m e = elim (eqb_tells n m) [ inl t ↦ t.1 | inr t ↦ absurd (let k : true ≡ false = sym e ∙ t.0 in cc) ]
+
+or_left : (x y : Bool) → x ≡ true → (x || y) ≡ true
+or_left true y e = refl
+or_left false y e = absurd (cc)
+
+find_case : {A : Type 0} (p : A → Bool) (x : A) (xs : List A) (y : A) (b : Bool) → p x ≡ b → p y ≡ true → Among (x ∷ xs) y → (Among xs y → (f : A) × (find p xs ≡ Some f) × Among xs f × (p f ≡ true))
+    → (f : A) × (cond b (Some x) (find p xs) ≡ Some f) × Among (x ∷ xs) f × (p f ≡ true)
+find_case p x xs y true e k h g = (x, refl, inl refl, e)
+find_case p x xs y false e k (inl i) g = absurd (let z : false ≡ true = sym e ∙ ap p i ∙ k in cc)
+find_case p x xs y false e k (inr i) g = let r = g i in (r.0, r.1, inr r.2, r.3)
+
+-- where an element passes, one is found
+find_some : {A : Type 0} (p : A → Bool) (xs : List A) (y : A) → Among xs y → p y ≡ true → (f : A) × (find p xs ≡ Some f) × Among xs f × (p f ≡ true)
+find_some p [] y h k = absurd h
+find_some p (x ∷ xs) y h k = find_case p x xs y (p x) refl k h (λ i. find_some p xs y i k)
 
 option_all : {A : Type 0} (B : A → Type 0) (o : Option A) → Maybe B o → AllOf B (option_to_list o)
 option_all B None h = tt
@@ -132,15 +159,15 @@ plain_broadcast n now ch m =
     (plain_tell_if n ch.ack ch.slot (reply_ok ch.join_ref m no_members) refl) (all_map (Plain true n) (broadcast_part m) to (λ h. refl))
 
 -- the number of a channel that a join makes
-abbrev IsNumbered : ℕ → Checked Channel → Type 0
-IsNumbered n (Ok ch) = ch.number ≡ n
-IsNumbered n (Err why) = ⊤
+abbrev IsMade : ℕ → ℕ → List ℕ → Checked Channel → Type 0
+IsMade n slot topic (Ok ch) = (ch.number ≡ n) × (ch.slot ≡ slot) × (ch.topic ≡ topic)
+IsMade n slot topic (Err why) = ⊤
 
-numbered_by : {A : Type 0} (n : ℕ) (r : Checked A) (f : A → Checked Channel) → ((x : A) → IsNumbered n (f x)) → IsNumbered n (r >> f)
-numbered_by n (Ok x) f h = h x
-numbered_by n (Err why) f h = tt
+made_by : {A : Type 0} (n slot : ℕ) (topic : List ℕ) (r : Checked A) (f : A → Checked Channel) → ((x : A) → IsMade n slot topic (f x)) → IsMade n slot topic (r >> f)
+made_by n slot topic (Ok x) f h = h x
+made_by n slot topic (Err why) f h = tt
 
-module _ (now : Now) (a : AllOf (Below now.number) now.members) where
+module _ (now : Now) (a : AllOf (Below now.number) now.members) (apart : AreApart now.members) where
   channels_below : (slot : ℕ) → AllOf (Below now.number) (channels_of now slot)
   channels_below slot = all_filter (Below now.number) (is_of_slot slot) now.members a
 
@@ -194,21 +221,41 @@ module _ (now : Now) (a : AllOf (Below now.number) now.members) where
   found_below : (slot : ℕ) (topic : List ℕ) → Maybe (Below now.number) (channel_on now slot topic)
   found_below slot topic = find_of (Below now.number) (λ m. is_on topic m.channel) (channels_of now slot) (channels_below slot)
 
-  shape_result : (slot : ℕ) (gone : List ℕ) (m : Message) (front : List Part) (r : Checked Channel) → AllOf (Plain true now.number) front → IsNumbered now.number r
+  -- the channel of the slot on a topic is the one that is found
+  found_one : (slot : ℕ) (topic : List ℕ) (h : Member) → Among now.members h → h.channel.slot ≡ slot → h.channel.topic ≡ topic → channel_on now slot topic ≡ Some h
+  found_one slot topic h here e t =
+      let test : Member → Bool = λ m. is_on topic m.channel in
+      let own : is_of_slot slot h ≡ true = ap (λ n. n == slot) e ∙ eqb_same slot in
+      let on : test h ≡ true = (bytes_eq-Decides h.channel.topic topic).1 t in
+      let r = find_some test (channels_of now slot) h (filter_among (is_of_slot slot) now.members h here own) on in
+      let f = among_filter (is_of_slot slot) now.members r.0 r.2 in
+      let slots : r.0.channel.slot ≡ h.channel.slot = same_number r.0.channel.slot slot f.1 ∙ sym e in
+      let topics : r.0.channel.topic ≡ h.channel.topic = (bytes_eq-Decides r.0.channel.topic topic).0 r.3 ∙ sym t in
+      r.1 ∙ ap (λ (m : Member). Some m) (apart r.0 h f.0 here slots topics)
+
+  abbrev closes : Option Member → List Part
+  closes o = in_turn (close now) [] (option_to_list o)
+
+  room : (slot : ℕ) (topic : List ℕ) (h : Member) → Among now.members h → h.channel.slot ≡ slot → h.channel.topic ≡ topic → has h.channel.number (departed_in (closes (channel_on now slot topic))) ≡ true
+  room slot topic h here e t =
+      ap (λ (o : Option Member). has h.channel.number (departed_in (closes o))) (found_one slot topic h here e t)
+      ∙ or_left (h.channel.number == h.channel.number) _ (eqb_same h.channel.number)
+
+  shape_result : (slot : ℕ) (gone : List ℕ) (m : Message) (front : List Part) (r : Checked Channel) → AllOf (Plain true now.number) front → IsMade now.number slot m.topic r → ((h : Member) → Among now.members h → h.channel.slot ≡ slot → h.channel.topic ≡ m.topic → has h.channel.number (departed_in front) ≡ true)
       → Shaped (front ++ join_result_parts now slot gone m r)
-  shape_result slot gone m front (Ok ch) f n =
+  shape_result slot gone m front (Ok ch) f n room =
       let ok = reply_ok ch.join_ref m (joined_response ch) in
       let subscribed = tell_if (has_bindings ch) ch.slot (subscribed_message ch) in
       let state = tell_if ch.presence ch.slot (presence_state ch (present_on now gone ch.topic)) in
       joining front ch (tell ch.slot ok ++ subscribed ++ state) f
       (refl, all_append (Plain true now.number) subscribed state (plain_tell_if now.number (has_bindings ch) ch.slot (subscribed_message ch) refl) (plain_tell_if now.number ch.presence ch.slot (presence_state ch (present_on now gone ch.topic)) refl))
-      n refl
-  shape_result slot gone m front (Err why) f n = plain (all_append (Plain true now.number) front (tell slot (reply_error m.join_ref m why)) f (refl, tt))
+      n.0 (λ h i e t. room h i (e ∙ n.1) (t ∙ n.2)) refl
+  shape_result slot gone m front (Err why) f n room = plain (all_append (Plain true now.number) front (tell slot (reply_error m.join_ref m why)) f (refl, tt))
 
   module _ (c : Catalog) (s : Settings) where
-    join_numbered : (slot : ℕ) (o : Opening) (others : ℕ) (m : Message) → IsNumbered now.number (channel_of_join c s now slot o others m)
+    join_made : (slot : ℕ) (o : Opening) (others : ℕ) (m : Message) → IsMade now.number slot m.topic (channel_of_join c s now slot o others m)
     unfolding channel_of_join
-    join_numbered slot o others m =
+    join_made slot o others m =
         let made : Config → Claims → ℕ → List Subscribed → Checked Channel = λ config claims role bindings. Ok (record {
           number = now.number;
           slot = slot;
@@ -228,12 +275,12 @@ module _ (now : Now) (a : AllOf (Below now.number) now.members) where
         let with_claims : Config → Claims → Checked Channel = λ config claims. told_by registry_text (role_for c claims) >> with_role config claims in
         let with_config : Config → Checked Channel = λ config.
         demand (not config.private) (codes "private channel") >> λ _. asked_claims s now o (member_of m.payload (codes "access_token")) >> with_claims config in
-        numbered_by now.number (or_why (codes "bad config") (config_of m.payload)) with_config (λ config.
-        numbered_by now.number (demand (not config.private) (codes "private channel")) (λ _. asked_claims s now o (member_of m.payload (codes "access_token")) >> with_claims config) (λ x.
-        numbered_by now.number (asked_claims s now o (member_of m.payload (codes "access_token"))) (with_claims config) (λ claims.
-        numbered_by now.number (told_by registry_text (role_for c claims)) (with_role config claims) (λ role.
-        numbered_by now.number (demand (nat_lt others channel_limit) (codes "too many channels")) (λ _. told_by registry_text (bindings_for c claims (map binding_of config.bindings)) >> made config claims role) (λ y.
-        numbered_by now.number (told_by registry_text (bindings_for c claims (map binding_of config.bindings))) (made config claims role) (λ bindings. refl))))))
+        made_by now.number slot m.topic (or_why (codes "bad config") (config_of m.payload)) with_config (λ config.
+        made_by now.number slot m.topic (demand (not config.private) (codes "private channel")) (λ _. asked_claims s now o (member_of m.payload (codes "access_token")) >> with_claims config) (λ x.
+        made_by now.number slot m.topic (asked_claims s now o (member_of m.payload (codes "access_token"))) (with_claims config) (λ claims.
+        made_by now.number slot m.topic (told_by registry_text (role_for c claims)) (with_role config claims) (λ role.
+        made_by now.number slot m.topic (demand (nat_lt others channel_limit) (codes "too many channels")) (λ _. told_by registry_text (bindings_for c claims (map binding_of config.bindings)) >> made config claims role) (λ y.
+        made_by now.number slot m.topic (told_by registry_text (bindings_for c claims (map binding_of config.bindings))) (made config claims role) (λ bindings. (refl, refl, refl)))))))
 
     shape_join : (slot : ℕ) (o : Opening) (m : Message) → Shaped (join_parts c s now slot o m)
     shape_join slot o m =
@@ -241,7 +288,7 @@ module _ (now : Now) (a : AllOf (Below now.number) now.members) where
         by_case (is_channel_topic m.topic) (join_over_former c s now slot o m former) (tell slot (reply_error m.join_ref m (codes "unmatched topic")))
         (shape_result slot (map (λ (h : Member). h.channel.number) former) m (in_turn (close now) [] former) (channel_of_join c s now slot o (others now slot m.topic) m)
         (plain_turn now.number (close now) (Below now.number) (λ g h b. plain_close now.number now g h b) [] former (option_all (Below now.number) (channel_on now slot m.topic) (found_below slot m.topic)))
-        (join_numbered slot o (others now slot m.topic) m))
+        (join_made slot o (others now slot m.topic) m) (room slot m.topic))
         (plain (refl, tt))
 
     shape_ask : (o : Opening) (h : Member) (m : Message) (k : Ask) → Among now.members h → Shaped (ask_parts c s now o h m k)

@@ -5,20 +5,17 @@ use Rattle.std.specs.List.{filter, filter_map, flat_map, list_any}
 use Rattle.std.proofs.lemmas.Bool.Decides.{nat_tests, eqb_tells}
 use Rattle.std.proofs.lemmas.List.Concat.{flat_map-append}
 use Rattle.std.proofs.lemmas.List.Elements.{filter_map-append}
-use Rattle.rt_catalog.specs.declared.catalog.Catalog.{Catalog}
-use Rattle.rt_entry.specs.declared.input.Input.{Input}
-use Rattle.rt_entry.specs.declared.input.Settings.{Settings}
 use Rattle.rt_entry.specs.declared.story.Channel.{Channel}
 use Rattle.rt_entry.specs.declared.story.Member.{Member}
 use Rattle.rt_entry.specs.declared.story.Track.{Track}
 use Rattle.rt_entry.specs.declared.story.Part.{Part}
 use Rattle.rt_entry.specs.declared.story.Part.TheVariants.{Opens, Ends, Tells, Joins, Renews, Tracks, Untracks, Departs}
-use Rattle.rt_entry.specs.Story.{Line, Story, now_of, joined, joined_by, departed, departed_by, departed_in, renewed_by, first_or, has, members_at, member_in, claims_at, standing_of, tracked_by, all_tracks, is_last, standing_tracks, edits_at, tables_of, tables_left}
-use Rattle.rt_entry.specs.Doings.{doings, story}
-use Rattle.rt_laws.specs.After.{joins_of, new_member, with_standing, tracks_in, after}
-use Rattle.rt_laws.proofs.Plain.{AllOf, all_append, all_filter, all_map_of, all_weaker, any_append}
-use Rattle.rt_laws.proofs.Shapes.{Plain, Quiet, Below, Shape, plain, joining, tracking, fine_for, shape_doings}
-use Rattle.rt_laws.proofs.Grows.{Tagged, is_held, IsSound, remains_by, joined_grows, members_grow, now_grows}
+use Rattle.rt_entry.specs.Story.{Line, Story, joined, joined_by, departed, departed_by, departed_in, renewed_by, first_or, has, members_at, member_in, claims_at, standing_of, tracked_by, all_tracks, is_last, standing_tracks}
+use Rattle.rt_laws.specs.After.{joins_of, new_member, with_standing, tracks_in}
+use Rattle.rt_laws.proofs.Among.{Among, among_either, among_filter, among_map, map_among}
+use Rattle.rt_laws.proofs.Plain.{AllOf, all_among, all_append, all_filter, all_map_of, all_weaker, any_append}
+use Rattle.rt_laws.proofs.Shapes.{Plain, Quiet, Below, Shape, plain, joining, tracking, MakesRoom, AreApart, fine_for}
+use Rattle.rt_laws.proofs.Grows.{Tagged, is_held, IsSound, remains_by, joined_grows, members_grow}
 
 -- what plain parts leave
 
@@ -115,12 +112,12 @@ around_renews b n m front p back le f g e =
 
 shape_has : (b : Bool) (n m : ℕ) (hs : List Member) (ps : List Part) → n ≤ m → Shape b n hs ps → has m (departed_in ps) ≡ false
 shape_has b n m hs ps le (plain h) = plain_has b n m ps le h
-shape_has b n m hs ps le (joining front ch back f g k e) = ap (λ qs. has m (departed_in qs)) e ∙ around_has b n m front (Joins ch) back le f g refl
+shape_has b n m hs ps le (joining front ch back f g k room e) = ap (λ qs. has m (departed_in qs)) e ∙ around_has b n m front (Joins ch) back le f g refl
 shape_has b n m hs ps le (tracking front t back f g k lt e) = ap (λ qs. has m (departed_in qs)) e ∙ around_has b n m front (Tracks t) back le (quiet_front b n front f) (quiet_front b n back g) refl
 
 shape_renews : (b : Bool) (n m : ℕ) (hs : List Member) (ps : List Part) → n ≤ m → Shape b n hs ps → filter_map (renewed_by m) ps ≡ []
 shape_renews b n m hs ps le (plain h) = plain_renews b n m ps le h
-shape_renews b n m hs ps le (joining front ch back f g k e) = ap (filter_map (renewed_by m)) e ∙ around_renews b n m front (Joins ch) back le f g refl
+shape_renews b n m hs ps le (joining front ch back f g k room e) = ap (filter_map (renewed_by m)) e ∙ around_renews b n m front (Joins ch) back le f g refl
 shape_renews b n m hs ps le (tracking front t back f g k lt e) = ap (filter_map (renewed_by m)) e ∙ around_renews b n m front (Tracks t) back le (quiet_front b n front f) (quiet_front b n back g) refl
 
 around_joins : (b : Bool) (n : ℕ) (front : List Part) (p : Part) (back : List Part) → AllOf (Plain b n) front → AllOf (Plain b n) back → joins_of (front ++ p ∷ back) ≡ joins_of (p ∷ [])
@@ -130,7 +127,7 @@ around_joins b n front p back f g =
 
 shape_joins : (b : Bool) (n : ℕ) (hs : List Member) (ps : List Part) → Shape b n hs ps → (joins_of ps ≡ []) ⊎ ((ch : Channel) × (joins_of ps ≡ ch ∷ []) × (ch.number ≡ n))
 shape_joins b n hs ps (plain h) = inl (plain_joins b n ps h)
-shape_joins b n hs ps (joining front ch back f g k e) = inr (ch, ap joins_of e ∙ around_joins b n front (Joins ch) back f g, k)
+shape_joins b n hs ps (joining front ch back f g k room e) = inr (ch, ap joins_of e ∙ around_joins b n front (Joins ch) back f g, k)
 shape_joins b n hs ps (tracking front t back f g k lt e) = inl (ap joins_of e ∙ around_joins b n front (Tracks t) back (quiet_front b n front f) (quiet_front b n back g))
 
 -- either nothing new stands, or one track of a member, and nobody departs or joins
@@ -138,7 +135,7 @@ shape_tracks : (b : Bool) (n : ℕ) (hs : List Member) (ps : List Part) → Shap
     → (standing_tracks (tracks_in ps) ≡ [])
     ⊎ ((t : Track) × (tracks_in ps ≡ (t.channel, Some t) ∷ []) × (departed_in ps ≡ []) × (list_any (λ (h : Member). h.channel.number == t.channel) hs ≡ true) × (t.channel < n))
 shape_tracks b n hs ps (plain h) = inl (ap (λ qs. standing_tracks (tracks_in qs)) (sym (append-nil ps)) ∙ plain_tracks b n ps [] h)
-shape_tracks b n hs ps (joining front ch back f g k e) =
+shape_tracks b n hs ps (joining front ch back f g k room e) =
     inl (ap (λ qs. standing_tracks (tracks_in qs)) e ∙ plain_tracks b n front (Joins ch ∷ back) f ∙ ap (λ qs. standing_tracks (tracks_in qs)) (sym (append-nil back)) ∙ plain_tracks b n back [] g)
 shape_tracks b n hs ps (tracking front t back f g k lt e) =
     inr (
@@ -285,7 +282,7 @@ plain_track_below b n m (Departs k ∷ ps) qs h g = plain_track_below b n m ps q
 shape_track_below : (b : Bool) (n m : ℕ) (hs : List Member) (ps : List Part) → n ≤ m → Shape b n hs ps → AllOf (TrackBelow m) (tracks_in ps)
 shape_track_below b n m hs ps le (plain h) =
     let P : List Part → Type 0 = λ qs. AllOf (TrackBelow m) (tracks_in qs) in subst P (append-nil ps) (plain_track_below b n m ps [] h tt)
-shape_track_below b n m hs ps le (joining front ch back f g k e) =
+shape_track_below b n m hs ps le (joining front ch back f g k room e) =
     let P : List Part → Type 0 = λ qs. AllOf (TrackBelow m) (tracks_in qs) in
     subst P (sym e) (plain_track_below b n m front (Joins ch ∷ back) f (subst P (append-nil back) (plain_track_below b n m back [] g tt)))
 shape_track_below b n m hs ps le (tracking front t back f g k lt e) =
@@ -396,29 +393,67 @@ shape_sound l before h =
       new = new_stands l before h;
     }
 
-module _ (c : Catalog) (s : Settings) where
-  abbrev line_of : List Input → Input → Line
-  line_of journal i = record { input = i; parts = doings c s (now_of (story c s journal)) (tables_left c (story c s journal) i) i }
+-- whoever joins finds room
+shape_room : (b : Bool) (n : ℕ) (hs : List Member) (ps : List Part) → Shape b n hs ps → AllOf (λ (ch : Channel). MakesRoom hs ch ps) (joins_of ps)
+shape_room b n hs ps (plain h) = let P : List Channel → Type 0 = AllOf (λ (ch : Channel). MakesRoom hs ch ps) in subst P (sym (plain_joins b n ps h)) tt
+shape_room b n hs ps (joining front ch back f g k room e) =
+    let P : List Channel → Type 0 = AllOf (λ (x : Channel). MakesRoom hs x ps) in
+    let here : MakesRoom hs ch ps = λ h i sl tp.
+    ap (λ qs. has h.channel.number (departed_in qs)) e ∙ has_append h.channel.number front (Joins ch ∷ back) ∙ ap (λ t. t || has h.channel.number (departed_in (Joins ch ∷ back))) (room h i sl tp) in
+    subst P (sym (ap joins_of e ∙ around_joins b n front (Joins ch) back f g)) (here, tt)
+shape_room b n hs ps (tracking front t back f g k lt e) =
+    let P : List Channel → Type 0 = AllOf (λ (ch : Channel). MakesRoom hs ch ps) in
+    subst P (sym (ap joins_of e ∙ around_joins b n front (Tracks t) back (quiet_front b n front f) (quiet_front b n back g))) tt
 
-  pub shape_next : (st : Story) (i : Input) → Shaped st → Shape (fine_for i) (length st) (members_in st) (doings c s (now_of st) (tables_left c st i) i)
-  unfolding now_of
-  shape_next st i h = shape_doings (now_of st) (held_below st h) c s (tables_left c st i) i
+-- a slot has one channel on a topic
+abbrev pub ChannelsApart : List Channel → Type 0
+ChannelsApart chs = (x y : Channel) → Among chs x → Among chs y → x.slot ≡ y.slot → x.topic ≡ y.topic → x ≡ y
 
-  pub story_shaped : (journal : List Input) → Shaped (story c s journal)
-  unfolding story
-  story_shaped [] = tt
-  story_shaped (i ∷ before) = (shape_next (story c s before) i (story_shaped before), story_shaped before)
+one_of : (js : List Channel) → ((length js ≡ 0) ⊎ (length js ≡ 1)) → (x y : Channel) → Among js x → Among js y → x ≡ y
+one_of [] one x y a b = absurd a
+one_of (j ∷ []) one x y (inl a) (inl b) = sym a ∙ b
+one_of (j ∷ []) one x y (inl a) (inr b) = absurd b
+one_of (j ∷ []) one x y (inr a) b = absurd a
+one_of (j ∷ k ∷ more) (inl one) x y a b = absurd (omega arith)
+one_of (j ∷ k ∷ more) (inr one) x y a b = absurd (omega arith)
 
-  story_more : (journal : List Input) (i : Input) → story c s (i ∷ journal) ≡ line_of journal i ∷ story c s journal
-  unfolding story
-  story_more journal i = refl
+-- who stays and who joins aren't on one topic of a slot
+old_new : (l : Line) (before : Story) (x y : Channel) → Shaped (l ∷ before) → Among (filter (remains_by l.parts) (members_at before)) x → Among (joins_of l.parts) y → x.slot ≡ y.slot → x.topic ≡ y.topic → ⊥
+old_new l before x y h a b sl tp =
+    let f = among_filter (remains_by l.parts) (members_at before) x a in
+    let room = all_among (λ (ch : Channel). MakesRoom (members_in before) ch l.parts) (joins_of l.parts) y (shape_room (fine_for l.input) (length before) (members_in before) l.parts h.0) b in
+    let gone : has x.number (departed_in l.parts) ≡ true = room (member_in before x) (map_among (member_in before) (members_at before) x f.0) sl tp in
+    let stays : not (has x.number (departed_in l.parts)) ≡ true = f.1 in
+    let z : not true ≡ true = sym (ap not gone) ∙ stays in absurd (cc)
 
-  pub story_grows : (journal : List Input) (i : Input) → now_of (story c s (i ∷ journal)) ≡ after (now_of (story c s journal)) i (doings c s (now_of (story c s journal)) (tables_left c (story c s journal) i) i)
-  story_grows journal i =
-      let st = story c s journal in
-      let l = line_of journal i in
-      ap now_of (story_more journal i) ∙ now_grows l st (shape_sound l st (shape_next st i (story_shaped journal), story_shaped journal))
+apart_more : (l : Line) (before : Story) → Shaped (l ∷ before) → ChannelsApart (members_at before) → ChannelsApart (filter (remains_by l.parts) (members_at before) ++ joins_of l.parts)
+apart_more l before h ap_old x y a b sl tp =
+    let old = filter (remains_by l.parts) (members_at before) in
+    let js = joins_of l.parts in
+    let w = joins_well l before h in
+    elim (among_either old js x a) [
+      | inl p ↦ elim (among_either old js y b) [
+        | inl q ↦ ap_old x y (among_filter (remains_by l.parts) (members_at before) x p).0 (among_filter (remains_by l.parts) (members_at before) y q).0 sl tp
+        | inr q ↦ absurd (old_new l before x y h p q sl tp)
+      ]
+      | inr p ↦ elim (among_either old js y b) [
+        | inl q ↦ absurd (old_new l before y x h q p (sym sl) (sym tp))
+        | inr q ↦ one_of js w.one x y p q
+      ]
+    ]
 
-  pub tables_grow : (journal : List Input) (i : Input) → tables_of c (edits_at (story c s (i ∷ journal))) ≡ tables_left c (story c s journal) i
-  unfolding story edits_at
-  tables_grow journal i = refl
+no_members : members_at [] ≡ []
+unfolding members_at joined
+no_members = refl
+
+channels_apart : (st : Story) → Shaped st → ChannelsApart (members_at st)
+channels_apart [] h = subst ChannelsApart (sym no_members) (λ x y a b sl tp. absurd a)
+channels_apart (l ∷ before) h = subst ChannelsApart (sym (members_more l before h)) (apart_more l before h (channels_apart before h.1))
+
+pub members_apart : (st : Story) → Shaped st → AreApart (members_in st)
+members_apart st h g k a b sl tp =
+    let x = among_map (member_in st) (members_at st) g a in
+    let y = among_map (member_in st) (members_at st) k b in
+    let slots : x.0.slot ≡ y.0.slot = ap (λ (m : Member). m.channel.slot) x.2 ∙ sl ∙ sym (ap (λ (m : Member). m.channel.slot) y.2) in
+    let topics : x.0.topic ≡ y.0.topic = ap (λ (m : Member). m.channel.topic) x.2 ∙ tp ∙ sym (ap (λ (m : Member). m.channel.topic) y.2) in
+    sym x.2 ∙ ap (member_in st) (channels_apart st h x.0 y.0 x.1 y.1 slots topics) ∙ y.2

@@ -15,7 +15,7 @@ abbrev Rising : List Channel → Type 0
 Rising [] = ⊤
 Rising (ch ∷ chs) = AllOf (λ (d : Channel). ch.number < d.number) chs × Rising chs
 
-abbrev RisingMembers : List Member → Type 0
+abbrev pub RisingMembers : List Member → Type 0
 RisingMembers [] = ⊤
 RisingMembers (h ∷ hs) = AllOf (λ (g : Member). h.channel.number < g.channel.number) hs × RisingMembers hs
 
@@ -51,7 +51,7 @@ joined_rising (l ∷ before) h =
     let w = joins_well l before h in
     subst Rising (sym (joined_grows l before w.one)) (rising_append (length before) (joined before) (joins_of l.parts) (joined_rising before h.1) (joined_below before h.1) w.one w.numbers)
 
-members_rising : (st : Story) → Shaped st → RisingMembers (members_in st)
+pub members_rising : (st : Story) → Shaped st → RisingMembers (members_in st)
 unfolding members_at
 members_rising st h = rising_map st (members_at st) (rising_filter (λ ch. not (has ch.number (departed st))) (joined st) (joined_rising st h))
 

@@ -1,7 +1,15 @@
+ghost use Rattle.rt_catalog.specs.declared.catalog.Catalog.{Catalog as CatalogData};
+ghost use Rattle.rt_entry.specs.declared.input.Settings.{Settings as SettingsData};
+ghost use Rattle.rt_laws.specs.Departures.{DeparturesAreTold};
 ghost use Rattle.rt_laws.specs.Views.{StatesAreRead};
 
 /// A client that is told a presence state and then differences holds, up to order, the metas of the state's tracks with each difference's joins added
 /// and its leaves removed.
 pub fn states_are_read()
     ensures { StatesAreRead }
+{}
+
+/// When a client is gone, each channel of another slot with presence enabled is told of every track that leaves its topic, each once, in join order.
+pub fn departures_are_told()
+    ensures { (c : CatalogData) (s : SettingsData) → DeparturesAreTold c s }
 {}

@@ -1,4 +1,4 @@
-use Rattle.rt_laws.proofs.Sound.{story_grows, tables_grow}
+use Rattle.rt_laws.proofs.Journals.{story_grows, tables_grow}
 use Rattle.rt_laws.proofs.stories.story_grows.Goals as goal
 
 pub returns : goal.returns
