@@ -2,7 +2,7 @@ use Rattle.json_lines.proofs.Steps.{tree_answer, bad_answer, deep_answer}
 use Rattle.json_lines.proofs.lines.answer.Goals as goal
 
 pub returns-in-Ok : goal.returns-in-Ok
-returns-in-Ok c = tree_answer c.args.out.items c.args.line.now c.in-Ok.tree c.write_behind.result c.in-Ok.ensures.found c.write_behind.ensures
+returns-in-Ok c = tree_answer c.args.out.items c.args.line.now c.in-Ok.tree c.write_behind.result c.in-Ok.ensures.found c.write_behind.ensures.spelling
 
 pub returns-in-Err-Bad : goal.returns-in-Err-Bad
 returns-in-Err-Bad c =
