@@ -15,8 +15,10 @@ mod Metas
 mod Moves
 mod Once
 pub mod Plain
+mod Present
 mod Sent
 pub mod Shapes
 pub mod Sound
+mod Tracked
 mod Unique
 pub mod Untouched

@@ -4,4 +4,5 @@ pub mod Departures
 pub mod Fan
 pub mod Members
 pub mod Served
+pub mod Tracks
 pub mod Views
