@@ -136,7 +136,7 @@ fine_parts n hs ps (plain h) = all_weaker (Plain true n) FinePart ps (fine_part 
 fine_parts n hs ps (joining front ch back f g k room e) =
     subst (AllOf FinePart) (sym e)
     (all_append FinePart front (Joins ch ∷ back) (all_weaker (Plain true n) FinePart front (fine_part n) f) ((λ slot m x. absurd (cc)), all_weaker (Plain true n) FinePart back (fine_part n) g))
-fine_parts n hs ps (tracking front t back f g k lt e) =
+fine_parts n hs ps (tracking front t back f g k lt own e) =
     subst (AllOf FinePart) (sym e)
     (all_append FinePart front (Tracks t ∷ back) (all_weaker (Quiet true) FinePart front fine_quiet f) ((λ slot m x. absurd (cc)), all_weaker (Quiet true) FinePart back fine_quiet g))
 

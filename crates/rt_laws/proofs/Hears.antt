@@ -93,7 +93,7 @@ no_departures : (joins leaves : List Track) (ms : List Member) → departed_in (
 no_departures joins leaves [] = refl
 no_departures joins leaves (m ∷ ms) = no_departures joins leaves ms
 
-none_leave : (now : Now) (gone : List ℕ) (o : Option Track) → departed_in (leave_diffs now gone o) ≡ []
+pub none_leave : (now : Now) (gone : List ℕ) (o : Option Track) → departed_in (leave_diffs now gone o) ≡ []
 none_leave now gone None = refl
 none_leave now gone (Some t) = no_departures [] (t ∷ []) (filter (watches gone t.topic) now.members)
 
@@ -132,7 +132,7 @@ module _ (now : Now) (h : Member) (in_members : Among now.members h) (rises : Ri
       ∙ ap (λ b. map say (cond b (h ∷ []) [])) (watching gone topic (bytes_eq h.channel.topic topic) refl stays)
       ∙ one_or_none joins leaves (bytes_eq h.channel.topic topic)
 
-  hears_leave : (gone : List ℕ) (o : Option Track) → has h.channel.number gone ≡ false → hears h.channel (leave_diffs now gone o) ≡ leave_for h.channel o
+  pub hears_leave : (gone : List ℕ) (o : Option Track) → has h.channel.number gone ≡ false → hears h.channel (leave_diffs now gone o) ≡ leave_for h.channel o
   hears_leave gone None stays = refl
   hears_leave gone (Some t) stays = hears_own gone t.topic [] (t ∷ []) stays
 

@@ -3,6 +3,7 @@ pub mod Among
 mod Columns
 mod Due
 pub mod Fans
+mod Follows
 pub mod Given
 pub mod Good
 pub mod Grows
@@ -15,8 +16,11 @@ mod Metas
 mod Moves
 mod Once
 pub mod Plain
+mod Present
 mod Sent
 pub mod Shapes
 pub mod Sound
+mod Tracked
+mod Turns
 mod Unique
 pub mod Untouched

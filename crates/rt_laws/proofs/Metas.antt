@@ -155,7 +155,7 @@ reads_leave leaves t f lt =
     (λ u a. ap (λ (x : List ℕ). bytes_eq x (reference_of (shown_meta t))) (reference_is u) ∙ ap (bytes_eq (decimal u.reference)) (reference_is t) ∙ same_text u.reference t.reference a lt) (fit_all leaves f))
 
 -- one difference
-reads_difference : (ch : Channel) (held : List Held) (tracks joins leaves : List Track) → Fit leaves → AllOf (λ (t : Track). t.reference < 2 ^ 64) (tracks ++ joins) → Moves held (map shown_meta tracks)
+pub reads_difference : (ch : Channel) (held : List Held) (tracks joins leaves : List Track) → Fit leaves → AllOf (λ (t : Track). t.reference < 2 ^ 64) (tracks ++ joins) → Moves held (map shown_meta tracks)
     → Moves (after_message held (presence_diff ch joins leaves)) (map shown_meta (filter (λ (t : Track). not (leaves_in leaves t)) (tracks ++ joins)))
 reads_difference ch held tracks joins leaves f all m =
     let ms : List Member = field (codes "joins") (metas_tree joins) ∷ field (codes "leaves") (metas_tree leaves) ∷ [] in

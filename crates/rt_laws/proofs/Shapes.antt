@@ -75,6 +75,14 @@ Below n h = h.channel.number < n
 abbrev pub MakesRoom : List Member → Channel → List Part → Type 0
 MakesRoom members ch front = (h : Member) → Among members h → h.channel.slot ≡ ch.slot → h.channel.topic ≡ ch.topic → has h.channel.number (departed_in front) ≡ true
 
+-- the track is a member's, on its topic, under the input's number
+pub record IsOfMember (n : ℕ) (members : List Member) (t : Track) : Type 0 where
+  pub member : Member
+  pub here : Among members member
+  pub number : member.channel.number ≡ t.channel
+  pub topic : member.channel.topic ≡ t.topic
+  pub reference : t.reference ≡ n
+
 -- a slot has one channel on a topic
 abbrev pub AreApart : List Member → Type 0
 AreApart members = (g h : Member) → Among members g → Among members h → g.channel.slot ≡ h.channel.slot → g.channel.topic ≡ h.channel.topic → g ≡ h
@@ -83,7 +91,7 @@ pub data Shape (b : Bool) (n : ℕ) (members : List Member) (ps : List Part) : T
   plain : AllOf (Plain b n) ps → Shape b n members ps
   joining : (front : List Part) (ch : Channel) (back : List Part) → AllOf (Plain b n) front → AllOf (Plain b n) back → ch.number ≡ n → MakesRoom members ch front → ps ≡ front ++ Joins ch ∷ back → Shape b n members ps
   tracking : (front : List Part) (t : Track) (back : List Part) → AllOf (Quiet b) front → AllOf (Quiet b) back → list_any (λ (h : Member). h.channel.number == t.channel) members ≡ true → t.channel < n
-      → ps ≡ front ++ Tracks t ∷ back → Shape b n members ps
+      → IsOfMember n members t → ps ≡ front ++ Tracks t ∷ back → Shape b n members ps
 
 pub eqb_same : (n : ℕ) → (n == n) ≡ true
 eqb_same n = elim (eqb_tells n n) [ inl t ↦ t.0 | inr t ↦ absurd (t.1 refl) ]
@@ -301,7 +309,7 @@ module _ (now : Now) (a : AllOf (Below now.number) now.members) (apart : AreApar
         tracking (tell h.channel.slot (reply_ok h.channel.join_ref m no_members)) t (diffs now [] h.channel.topic (t ∷ []) (option_to_list (track_of now h.channel.number)))
         (refl, tt) (quiet_diffs now [] h.channel.topic (t ∷ []) (option_to_list (track_of now h.channel.number)))
         (any_among (λ (g : Member). g.channel.number == h.channel.number) now.members h here (eqb_same h.channel.number))
-        (all_among (Below now.number) now.members h a here) refl
+        (all_among (Below now.number) now.members h a here) (record { member = h; here = here; number = refl; topic = refl; reference = refl }) refl
     shape_ask o h m untrack here = plain (plain_untracks now.number now h.channel m)
     shape_ask o h m unknown_presence here = plain (refl, tt)
     shape_ask o h m nothing here = plain tt

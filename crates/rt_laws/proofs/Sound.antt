@@ -14,7 +14,7 @@ use Rattle.rt_entry.specs.Story.{Line, Story, joined, joined_by, departed, depar
 use Rattle.rt_laws.specs.After.{joins_of, new_member, with_standing, tracks_in}
 use Rattle.rt_laws.proofs.Among.{Among, among_either, among_filter, among_map, map_among}
 use Rattle.rt_laws.proofs.Plain.{AllOf, all_among, all_append, all_filter, all_map_of, all_weaker, any_append}
-use Rattle.rt_laws.proofs.Shapes.{Plain, Quiet, Below, Shape, plain, joining, tracking, MakesRoom, AreApart, fine_for}
+use Rattle.rt_laws.proofs.Shapes.{Plain, Quiet, Below, Shape, plain, joining, tracking, MakesRoom, AreApart, IsOfMember, fine_for}
 use Rattle.rt_laws.proofs.Grows.{Tagged, is_held, IsSound, remains_by, joined_grows, members_grow}
 
 -- what plain parts leave
@@ -113,12 +113,12 @@ around_renews b n m front p back le f g e =
 shape_has : (b : Bool) (n m : ℕ) (hs : List Member) (ps : List Part) → n ≤ m → Shape b n hs ps → has m (departed_in ps) ≡ false
 shape_has b n m hs ps le (plain h) = plain_has b n m ps le h
 shape_has b n m hs ps le (joining front ch back f g k room e) = ap (λ qs. has m (departed_in qs)) e ∙ around_has b n m front (Joins ch) back le f g refl
-shape_has b n m hs ps le (tracking front t back f g k lt e) = ap (λ qs. has m (departed_in qs)) e ∙ around_has b n m front (Tracks t) back le (quiet_front b n front f) (quiet_front b n back g) refl
+shape_has b n m hs ps le (tracking front t back f g k lt own e) = ap (λ qs. has m (departed_in qs)) e ∙ around_has b n m front (Tracks t) back le (quiet_front b n front f) (quiet_front b n back g) refl
 
 shape_renews : (b : Bool) (n m : ℕ) (hs : List Member) (ps : List Part) → n ≤ m → Shape b n hs ps → filter_map (renewed_by m) ps ≡ []
 shape_renews b n m hs ps le (plain h) = plain_renews b n m ps le h
 shape_renews b n m hs ps le (joining front ch back f g k room e) = ap (filter_map (renewed_by m)) e ∙ around_renews b n m front (Joins ch) back le f g refl
-shape_renews b n m hs ps le (tracking front t back f g k lt e) = ap (filter_map (renewed_by m)) e ∙ around_renews b n m front (Tracks t) back le (quiet_front b n front f) (quiet_front b n back g) refl
+shape_renews b n m hs ps le (tracking front t back f g k lt own e) = ap (filter_map (renewed_by m)) e ∙ around_renews b n m front (Tracks t) back le (quiet_front b n front f) (quiet_front b n back g) refl
 
 around_joins : (b : Bool) (n : ℕ) (front : List Part) (p : Part) (back : List Part) → AllOf (Plain b n) front → AllOf (Plain b n) back → joins_of (front ++ p ∷ back) ≡ joins_of (p ∷ [])
 around_joins b n front p back f g =
@@ -128,22 +128,23 @@ around_joins b n front p back f g =
 shape_joins : (b : Bool) (n : ℕ) (hs : List Member) (ps : List Part) → Shape b n hs ps → (joins_of ps ≡ []) ⊎ ((ch : Channel) × (joins_of ps ≡ ch ∷ []) × (ch.number ≡ n))
 shape_joins b n hs ps (plain h) = inl (plain_joins b n ps h)
 shape_joins b n hs ps (joining front ch back f g k room e) = inr (ch, ap joins_of e ∙ around_joins b n front (Joins ch) back f g, k)
-shape_joins b n hs ps (tracking front t back f g k lt e) = inl (ap joins_of e ∙ around_joins b n front (Tracks t) back (quiet_front b n front f) (quiet_front b n back g))
+shape_joins b n hs ps (tracking front t back f g k lt own e) = inl (ap joins_of e ∙ around_joins b n front (Tracks t) back (quiet_front b n front f) (quiet_front b n back g))
 
 -- either nothing new stands, or one track of a member, and nobody departs or joins
-shape_tracks : (b : Bool) (n : ℕ) (hs : List Member) (ps : List Part) → Shape b n hs ps
+pub shape_tracks : (b : Bool) (n : ℕ) (hs : List Member) (ps : List Part) → Shape b n hs ps
     → (standing_tracks (tracks_in ps) ≡ [])
-    ⊎ ((t : Track) × (tracks_in ps ≡ (t.channel, Some t) ∷ []) × (departed_in ps ≡ []) × (list_any (λ (h : Member). h.channel.number == t.channel) hs ≡ true) × (t.channel < n))
+    ⊎ ((t : Track) × (tracks_in ps ≡ (t.channel, Some t) ∷ []) × (departed_in ps ≡ []) × (list_any (λ (h : Member). h.channel.number == t.channel) hs ≡ true) × (t.channel < n) × IsOfMember n hs t)
 shape_tracks b n hs ps (plain h) = inl (ap (λ qs. standing_tracks (tracks_in qs)) (sym (append-nil ps)) ∙ plain_tracks b n ps [] h)
 shape_tracks b n hs ps (joining front ch back f g k room e) =
     inl (ap (λ qs. standing_tracks (tracks_in qs)) e ∙ plain_tracks b n front (Joins ch ∷ back) f ∙ ap (λ qs. standing_tracks (tracks_in qs)) (sym (append-nil back)) ∙ plain_tracks b n back [] g)
-shape_tracks b n hs ps (tracking front t back f g k lt e) =
+shape_tracks b n hs ps (tracking front t back f g k lt own e) =
     inr (
       t,
       ap tracks_in e ∙ flat_map-append tracked_by front (Tracks t ∷ back) ∙ ap (λ xs. xs ++ (t.channel, Some t) ∷ tracks_in back) (quiet_tracks b front f) ∙ ap (λ xs. (t.channel, Some t) ∷ xs) (quiet_tracks b back g),
       ap departed_in e ∙ filter_map-append departed_by front (Tracks t ∷ back) ∙ ap (λ xs. xs ++ departed_in back) (quiet_departs b front f) ∙ quiet_departs b back g,
       k,
       lt,
+      own,
     )
 
 -- each line of a story has the shape of its number
@@ -243,11 +244,11 @@ abbrev TrackBelow : ℕ → ℕ × Option Track → Type 0
 TrackBelow n (k, None) = ⊤
 TrackBelow n (k, Some t) = t.channel < n
 
-all_tracks_more : (l : Line) (before : Story) → all_tracks (l ∷ before) ≡ all_tracks before ++ tracks_in l.parts
+pub all_tracks_more : (l : Line) (before : Story) → all_tracks (l ∷ before) ≡ all_tracks before ++ tracks_in l.parts
 unfolding all_tracks
 all_tracks_more l before = refl
 
-no_tracks : all_tracks [] ≡ []
+pub no_tracks : all_tracks [] ≡ []
 unfolding all_tracks
 no_tracks = refl
 
@@ -285,7 +286,7 @@ shape_track_below b n m hs ps le (plain h) =
 shape_track_below b n m hs ps le (joining front ch back f g k room e) =
     let P : List Part → Type 0 = λ qs. AllOf (TrackBelow m) (tracks_in qs) in
     subst P (sym e) (plain_track_below b n m front (Joins ch ∷ back) f (subst P (append-nil back) (plain_track_below b n m back [] g tt)))
-shape_track_below b n m hs ps le (tracking front t back f g k lt e) =
+shape_track_below b n m hs ps le (tracking front t back f g k lt own e) =
     let P : List Part → Type 0 = λ qs. AllOf (TrackBelow m) (tracks_in qs) in
     subst P (sym e) (plain_track_below b n m front (Tracks t ∷ back) (quiet_front b n front f) (omega arith, subst P (append-nil back) (plain_track_below b n m back [] (quiet_front b n back g) tt)))
 
@@ -401,7 +402,7 @@ shape_room b n hs ps (joining front ch back f g k room e) =
     let here : MakesRoom hs ch ps = λ h i sl tp.
     ap (λ qs. has h.channel.number (departed_in qs)) e ∙ has_append h.channel.number front (Joins ch ∷ back) ∙ ap (λ t. t || has h.channel.number (departed_in (Joins ch ∷ back))) (room h i sl tp) in
     subst P (sym (ap joins_of e ∙ around_joins b n front (Joins ch) back f g)) (here, tt)
-shape_room b n hs ps (tracking front t back f g k lt e) =
+shape_room b n hs ps (tracking front t back f g k lt own e) =
     let P : List Channel → Type 0 = AllOf (λ (ch : Channel). MakesRoom hs ch ps) in
     subst P (sym (ap joins_of e ∙ around_joins b n front (Tracks t) back (quiet_front b n front f) (quiet_front b n back g))) tt
 

@@ -11,7 +11,7 @@ use Rattle.rt_laws.proofs.Plain.{AllOf, all_append, all_filter, all_map_of, all_
 use Rattle.rt_laws.proofs.Grows.{joined_grows}
 use Rattle.rt_laws.proofs.Sound.{Shaped, members_in, IsBelow, joined_below, joins_well}
 
-abbrev Rising : List Channel → Type 0
+abbrev pub Rising : List Channel → Type 0
 Rising [] = ⊤
 Rising (ch ∷ chs) = AllOf (λ (d : Channel). ch.number < d.number) chs × Rising chs
 
@@ -45,7 +45,7 @@ none_joined : joined [] ≡ []
 unfolding joined
 none_joined = refl
 
-joined_rising : (st : Story) → Shaped st → Rising (joined st)
+pub joined_rising : (st : Story) → Shaped st → Rising (joined st)
 joined_rising [] h = let P : List Channel → Type 0 = Rising in subst P (sym none_joined) tt
 joined_rising (l ∷ before) h =
     let w = joins_well l before h in
