@@ -1,12 +1,9 @@
 -- The spelling of a message, part by part, and that it is a frame.
 use Rattle.std.specs.Prelude.{IsUtf8, codes}
-use Rattle.std.specs.List.{AllByRecursion}
-use Rattle.std.proofs.Common.{◌≡◌, ℕ, true, List, [], ◌∷◌, ◌++◌, Option, Some, None, refl, ap, sym, ◌∙◌, subst, append_assoc}
+use Rattle.std.proofs.Common.{◌≡◌, ℕ, List, [], ◌∷◌, ◌++◌, Option, Some, refl, ap, sym, ◌∙◌, subst, append_assoc}
 use Rattle.rt_value.specs.Choice.{◌>>=◌}
-use Rattle.rt_json.specs.declared.tree.Json.{Json, Null, Num, Text, out-Json}
-use Rattle.rt_json.specs.declared.tree.Json.TheVariants as j
+use Rattle.rt_json.specs.declared.tree.Json.{Json, Null, Num, Text}
 use Rattle.rt_json.specs.declared.tree.Json.TheVariants.{outs-Null, outs-Text, outs-Num, outs-List, outs-Object}
-use Rattle.rt_json.specs.declared.tree.Json.TheOpen.{Json-F}
 use Rattle.rt_json.specs.declared.tree.named.Member.{Member}
 use Rattle.rt_json.specs.Fits.{FitsWithin, FitsOver}
 use Rattle.rt_json.specs.Grammar.{IsJson, max_levels}
