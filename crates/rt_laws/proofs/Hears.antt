@@ -89,7 +89,7 @@ same_number n m e = elim (eqb_tells n m) [ inl t ↦ t.1 | inr t ↦ absurd (let
 filter_turn : {A : Type 0} (p q : A → Bool) (xs : List A) → filter p (filter q xs) ≡ filter q (filter p xs)
 filter_turn p q xs = sym (filter_and p q xs) ∙ filter_same (λ x. q x && p x) (λ x. p x && q x) (λ x. and_swap (q x) (p x)) xs ∙ filter_and q p xs
 
-no_departures : (joins leaves : List Track) (ms : List Member) → departed_in (map (diff_to joins leaves) ms) ≡ []
+pub no_departures : (joins leaves : List Track) (ms : List Member) → departed_in (map (diff_to joins leaves) ms) ≡ []
 no_departures joins leaves [] = refl
 no_departures joins leaves (m ∷ ms) = no_departures joins leaves ms
 
