@@ -1,45 +1,34 @@
 -- What clients hold after an input.
-use Rattle.std.proofs.Common.{◌≡◌, ◌⊎◌, ℕ, suc, ◌+◌, ◌<◌, Bool, true, false, ◌&&◌, not, cond, List, [], ◌∷◌, ◌++◌, map, length, Option, Some, None, refl, sym, ap, subst, ◌∙◌, append-nil, arith}
-use Rattle.std.specs.Prelude.{⊤, ◌==◌, ◌^◌, codes, if◌then◌else◌, Contains, IsPermutation}
-use Rattle.std.specs.List.{filter, flat_map, enumerate_from}
+use Rattle.std.proofs.Common.{◌≡◌, suc, ◌<◌, Bool, true, false, List, [], ◌∷◌, map, length, refl, sym, ap, subst, arith}
+use Rattle.std.specs.Prelude.{◌^◌, Contains, IsPermutation}
+use Rattle.std.specs.List.{filter}
 use Rattle.std.specs.Str.{bytes_eq}
 use Rattle.rt_value.specs.declared.row.Row.{Row}
-use Rattle.rt_phx.specs.declared.message.Message.{Message}
-use Rattle.rt_phx.specs.declared.end.EndName.{EndName}
-use Rattle.rt_phx.specs.declared.end.EndName.TheVariants as end_name
-use Rattle.rt_filter.specs.declared.subscription.Subscription.{Subscription}
 use Rattle.rt_catalog.specs.declared.catalog.Catalog.{Catalog}
-use Rattle.rt_change.specs.declared.change.Change.{Change}
-use Rattle.rt_change.specs.Verdicts.{is_truncate}
 use Rattle.rt_entry.specs.declared.input.Input.{Input}
 use Rattle.rt_entry.specs.declared.input.Input.TheVariants.{Opened, Frame, Gone, Poll, Tick, Stop}
 use Rattle.rt_entry.specs.declared.input.Settings.{Settings}
-use Rattle.rt_entry.specs.declared.story.Opening.{Opening}
 use Rattle.rt_entry.specs.declared.story.Member.{Member}
 use Rattle.rt_entry.specs.declared.story.Track.{Track}
 use Rattle.rt_entry.specs.declared.story.Part.{Part}
-use Rattle.rt_entry.specs.declared.story.Part.TheVariants.{Opens, Ends}
-use Rattle.rt_entry.specs.declared.entry.ChannelView.{ChannelView}
-use Rattle.rt_entry.specs.Story.{Story, Now, now_of, has, departed_in, is_last, standing_tracks, present_at, tables_left}
+use Rattle.rt_entry.specs.Story.{Now, now_of, has, departed_in, present_at, tables_left}
 use Rattle.rt_entry.specs.Messages.{metas_tree, presence_state}
-use Rattle.rt_entry.specs.Doings.{in_turn, channels_of, opening_in, depart, end_of, end_if_open, fail, open_parts, is_idle, has_run_out, tick_parts, subscriptions, view_of, opening_of, gets, change_parts, change_parts_to, change_parts_to_all, poll_parts, doings, story}
+use Rattle.rt_entry.specs.Doings.{opening_in, doings, story}
 use Rattle.rt_entry.specs.Answers.{answers_by}
 use Rattle.rt_entry.specs.Presence.{Held, metas_in, client_view, shown_meta, present_on}
-use Rattle.rt_laws.specs.After.{tracks_in, outlasts, tracks_after, after, done_by}
+use Rattle.rt_laws.specs.After.{tracks_after, after, done_by}
 use Rattle.rt_laws.specs.Departures.{heard}
 use Rattle.rt_laws.specs.Follows.{IsOutside}
 use Rattle.rt_laws.specs.Members.{members_of_journal}
 use Rattle.rt_laws.proofs.Among.{Among, from_contains}
-use Rattle.rt_laws.proofs.Plain.{AllOf, all_append, all_flat, all_every, all_weaker, filter_all}
+use Rattle.rt_laws.proofs.Plain.{AllOf, all_weaker}
 use Rattle.rt_laws.proofs.Moves.{Moves, permuted}
 use Rattle.rt_laws.proofs.Metas.{read_again}
 use Rattle.rt_laws.proofs.Shapes.{AreApart}
-use Rattle.rt_laws.proofs.Sound.{Shaped, members_in, members_apart}
+use Rattle.rt_laws.proofs.Sound.{members_in, members_apart}
 use Rattle.rt_laws.proofs.Unique.{RisingMembers, members_rising}
 use Rattle.rt_laws.proofs.Tracked.{Apart, is_present}
 use Rattle.rt_laws.proofs.Journals.{story_shaped, story_grows}
-use Rattle.rt_laws.proofs.Hears.{hears}
-use Rattle.rt_laws.proofs.Turns.{IsMute, Turns, turns_then, turns_mute, turns_each, turns_depart, turns_fail, turns_end, shown_still}
 use Rattle.rt_laws.specs.Follows.{IsNoStop}
 use Rattle.rt_laws.proofs.Shapes.{Below}
 use Rattle.rt_laws.proofs.Sound.{held_below}

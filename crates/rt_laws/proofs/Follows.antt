@@ -1,10 +1,9 @@
 -- What clients hold after an input that is no frame and no stop.
-use Rattle.std.proofs.Common.{◌≡◌, ◌⊎◌, ℕ, suc, ◌+◌, ◌<◌, Bool, true, false, ◌&&◌, not, cond, List, [], ◌∷◌, ◌++◌, map, length, Option, Some, None, refl, sym, ap, subst, ◌∙◌, append-nil, arith}
-use Rattle.std.specs.Prelude.{⊤, ◌==◌, ◌^◌, codes, if◌then◌else◌, Contains, IsPermutation}
+use Rattle.std.proofs.Common.{◌≡◌, ℕ, ◌<◌, Bool, true, false, ◌&&◌, not, List, [], ◌∷◌, ◌++◌, map, Option, Some, None, refl, sym, ap, subst, ◌∙◌, append-nil}
+use Rattle.std.specs.Prelude.{⊤, ◌^◌, codes, if◌then◌else◌}
 use Rattle.std.specs.List.{filter, flat_map, enumerate_from}
 use Rattle.std.specs.Str.{bytes_eq}
 use Rattle.rt_value.specs.declared.row.Row.{Row}
-use Rattle.rt_phx.specs.declared.message.Message.{Message}
 use Rattle.rt_phx.specs.declared.end.EndName.{EndName}
 use Rattle.rt_phx.specs.declared.end.EndName.TheVariants as end_name
 use Rattle.rt_filter.specs.declared.subscription.Subscription.{Subscription}
@@ -20,26 +19,19 @@ use Rattle.rt_entry.specs.declared.story.Track.{Track}
 use Rattle.rt_entry.specs.declared.story.Part.{Part}
 use Rattle.rt_entry.specs.declared.story.Part.TheVariants.{Opens, Ends}
 use Rattle.rt_entry.specs.declared.entry.ChannelView.{ChannelView}
-use Rattle.rt_entry.specs.Story.{Story, Now, now_of, has, departed_in, is_last, standing_tracks, present_at, tables_left}
-use Rattle.rt_entry.specs.Messages.{metas_tree, presence_state}
-use Rattle.rt_entry.specs.Doings.{in_turn, channels_of, opening_in, depart, end_of, end_if_open, fail, open_parts, is_idle, has_run_out, tick_parts, subscriptions, view_of, opening_of, gets, change_parts, change_parts_to, change_parts_to_all, poll_parts, doings, story}
-use Rattle.rt_entry.specs.Answers.{answers_by}
-use Rattle.rt_entry.specs.Presence.{Held, metas_in, client_view, shown_meta, present_on}
-use Rattle.rt_laws.specs.After.{tracks_in, outlasts, tracks_after, after, done_by}
-use Rattle.rt_laws.specs.Departures.{heard}
+use Rattle.rt_entry.specs.Story.{Now, has, departed_in, is_last, standing_tracks}
+use Rattle.rt_entry.specs.Doings.{in_turn, channels_of, opening_in, end_of, end_if_open, fail, open_parts, is_idle, has_run_out, tick_parts, subscriptions, view_of, opening_of, gets, change_parts, change_parts_to, change_parts_to_all, poll_parts, doings}
+use Rattle.rt_entry.specs.Presence.{Held, client_view, shown_meta}
+use Rattle.rt_laws.specs.After.{tracks_after}
 use Rattle.rt_laws.specs.Follows.{IsOutside}
-use Rattle.rt_laws.specs.Members.{members_of_journal}
-use Rattle.rt_laws.proofs.Among.{Among, from_contains}
-use Rattle.rt_laws.proofs.Plain.{AllOf, all_append, all_flat, all_every, all_weaker, filter_all}
-use Rattle.rt_laws.proofs.Moves.{Moves, permuted}
-use Rattle.rt_laws.proofs.Metas.{read_again}
+use Rattle.rt_laws.proofs.Among.{Among}
+use Rattle.rt_laws.proofs.Plain.{AllOf, all_flat, all_every, filter_all}
+use Rattle.rt_laws.proofs.Moves.{Moves}
 use Rattle.rt_laws.proofs.Shapes.{AreApart}
-use Rattle.rt_laws.proofs.Sound.{Shaped, members_in, members_apart}
-use Rattle.rt_laws.proofs.Unique.{RisingMembers, members_rising}
-use Rattle.rt_laws.proofs.Tracked.{Apart, is_present}
-use Rattle.rt_laws.proofs.Journals.{story_shaped, story_grows}
+use Rattle.rt_laws.proofs.Unique.{RisingMembers}
+use Rattle.rt_laws.proofs.Tracked.{Apart}
 use Rattle.rt_laws.proofs.Hears.{hears}
-use Rattle.rt_laws.proofs.Turns.{IsMute, Turns, turns_then, turns_mute, turns_each, turns_depart, turns_fail, turns_end, shown_still}
+use Rattle.rt_laws.proofs.Turns.{IsMute, Turns, turns_then, turns_mute, turns_each, turns_fail, turns_end, shown_still}
 
 module _ (now : Now) (h : Member) (in_members : Among now.members h) (rises : RisingMembers now.members) (apart : AreApart now.members) (enabled : h.channel.presence ≡ true)
     (chans : Apart (λ (t : Track). t.channel) now.tracks) (refs : Apart (λ (t : Track). t.reference) now.tracks) (small : AllOf (λ (t : Track). t.reference < 2 ^ 64) now.tracks) where

@@ -1,12 +1,10 @@
 -- What a member's client holds after a frame.
-use Rattle.std.proofs.Common.{◌≡◌, ◌⊎◌, ℕ, ◌+◌, ◌<◌, Bool, true, false, ◌||◌, ◌&&◌, not, cond, List, [], ◌∷◌, ◌++◌, map, length, Option, Some, None, refl, sym, ap, subst, ◌∙◌, append-nil, arith, inl, inr}
-use Rattle.std.specs.Prelude.{⊤, ◌==◌, ◌^◌, codes, if◌then◌else◌, option_to_list, slice_get, Ok, Err}
-use Rattle.std.specs.List.{filter, flat_map, list_any, enumerate_from, cons_option}
+use Rattle.std.proofs.Common.{◌≡◌, ℕ, ◌<◌, Bool, true, false, ◌||◌, ◌&&◌, not, cond, List, [], ◌∷◌, ◌++◌, map, Option, Some, None, refl, sym, ap, subst, ◌∙◌, append-nil, arith}
+use Rattle.std.specs.Prelude.{⊤, ◌==◌, ◌^◌, codes, if◌then◌else◌, option_to_list, Ok, Err}
+use Rattle.std.specs.List.{filter, cons_option}
 use Rattle.std.specs.Str.{bytes_eq}
-use Rattle.std.proofs.lemmas.Bool.Decides.{eqb_tells}
 use Rattle.std.proofs.lemmas.List.Elements.{filter-append, filter_map-append}
 use Rattle.std.proofs.lemmas.Slice.Eq.{bytes_eq-Decides}
-use Rattle.rt_value.specs.declared.row.Row.{Row}
 use Rattle.rt_json.specs.declared.tree.Json.{Json}
 use Rattle.rt_phx.specs.declared.message.Message.{Message}
 use Rattle.rt_phx.specs.declared.end.EndName.TheVariants as end_name
@@ -21,13 +19,13 @@ use Rattle.rt_entry.specs.declared.story.Channel.{Channel}
 use Rattle.rt_entry.specs.declared.story.Member.{Member}
 use Rattle.rt_entry.specs.declared.story.Track.{Track}
 use Rattle.rt_entry.specs.declared.story.Part.{Part}
-use Rattle.rt_entry.specs.declared.story.Part.TheVariants.{Opens, Ends, Tells, Joins, Renews, Tracks, Untracks, Departs}
-use Rattle.rt_entry.specs.Story.{Now, Standing, has, departed_by, departed_in, is_last, standing_tracks}
-use Rattle.rt_entry.specs.Messages.{presence_state, presence_diff, subscribed_message, joined_response, broadcast_message}
+use Rattle.rt_entry.specs.declared.story.Part.TheVariants.{Tells, Joins, Renews, Tracks, Untracks}
+use Rattle.rt_entry.specs.Story.{Now, Standing, has, departed_by, departed_in, is_last}
+use Rattle.rt_entry.specs.Messages.{presence_state, presence_diff, subscribed_message, joined_response}
 use Rattle.rt_entry.specs.Joining.{Checked, channel_of_join, renewal_of}
-use Rattle.rt_entry.specs.Doings.{tell, in_turn, watches, is_of_slot, channels_of, end_of, is_on, channel_on, track_of, diffs, leave_diffs, depart, close, fail, tell_if, has_bindings, present_on, accept_parts, join_result_parts, others, renewal_parts, gets_broadcast, broadcast_part, broadcast_parts, track_by, track_parts, untrack_part, untrack_parts, leave_parts, is_shut, join_over_former, join_parts, renew_parts, ask_parts, channel_parts, message_parts, frame_parts}
+use Rattle.rt_entry.specs.Doings.{tell, in_turn, watches, is_of_slot, channels_of, end_of, is_on, channel_on, track_of, diffs, leave_diffs, close, fail, tell_if, has_bindings, present_on, accept_parts, join_result_parts, others, renewal_parts, gets_broadcast, broadcast_part, broadcast_parts, track_by, track_parts, untrack_part, is_shut, join_over_former, join_parts, ask_parts, channel_parts, message_parts, frame_parts}
 use Rattle.rt_entry.specs.Presence.{Held, after_message, client_view, shown_meta}
-use Rattle.rt_laws.specs.After.{tracks_in, outlasts, tracks_after}
+use Rattle.rt_laws.specs.After.{tracks_in, tracks_after}
 use Rattle.rt_laws.specs.Departures.{leave_for}
 use Rattle.rt_laws.specs.Views.{leaves_in, Fit}
 use Rattle.rt_laws.proofs.Among.{Among}
@@ -38,7 +36,7 @@ use Rattle.rt_laws.proofs.Shapes.{AreApart, Below, IsMade, room, join_made}
 use Rattle.rt_laws.proofs.Unique.{RisingMembers}
 use Rattle.rt_laws.proofs.Tracked.{Apart}
 use Rattle.rt_laws.proofs.Hears.{hears, hears_append, hears_own, no_departures}
-use Rattle.rt_laws.proofs.Turns.{IsMute, Turns, turns_each, turns_close, turns_fail, mute_view, view_append, none_found, one_found, of_one, leave_view, on_turn, eqb_turn, no_track_parts, same_number, other_false, same_true, shown_still}
+use Rattle.rt_laws.proofs.Turns.{IsMute, turns_each, turns_close, turns_fail, mute_view, view_append, none_found, one_found, of_one, leave_view, on_turn, eqb_turn, no_track_parts, same_number, other_false, shown_still}
 use Rattle.rt_laws.proofs.Follows.{Turn, then_turn, mute_turn, end_turn, turn_holds, after_with}
 
 one_test : (k o : Bool) → (o && not (k || false)) ≡ ((not (k || false) && not false) && o)

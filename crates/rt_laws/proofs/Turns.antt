@@ -1,7 +1,7 @@
 -- What a member's client holds after parts that let channels depart.
-use Rattle.std.proofs.Common.{◌≡◌, ◌⊎◌, ℕ, ◌+◌, ◌<◌, Bool, true, false, ◌||◌, ◌&&◌, not, cond, List, [], ◌∷◌, ◌++◌, map, Option, Some, None, refl, sym, ap, subst, ◌∙◌, append-nil, arith, inl, inr, eqb}
+use Rattle.std.proofs.Common.{◌≡◌, ℕ, ◌<◌, Bool, true, false, ◌||◌, ◌&&◌, not, cond, List, [], ◌∷◌, ◌++◌, map, Option, Some, None, refl, sym, ap, subst, ◌∙◌, append-nil, inl, inr}
 use Rattle.std.specs.Prelude.{⊤, ◌==◌, ◌^◌, codes, find}
-use Rattle.std.specs.List.{filter, filter_map, flat_map, list_any, cons_option}
+use Rattle.std.specs.List.{filter, cons_option}
 use Rattle.std.specs.Str.{bytes_eq}
 use Rattle.std.proofs.lemmas.Bool.Decides.{eqb_tells}
 use Rattle.std.proofs.lemmas.List.Concat.{flat_map-append}
@@ -16,9 +16,8 @@ use Rattle.rt_entry.specs.declared.story.Part.{Part}
 use Rattle.rt_entry.specs.declared.story.Part.TheVariants.{Opens, Ends, Tells, Joins, Renews, Tracks, Untracks, Departs}
 use Rattle.rt_entry.specs.Story.{Now, has, departed_by, departed_in, tracked_by}
 use Rattle.rt_entry.specs.Messages.{presence_diff, close_message, failed_message}
-use Rattle.rt_entry.specs.Doings.{in_turn, channels_of, track_of, watches, diff_to, diffs, leave_diffs, depart, end_of, close, fail}
-use Rattle.rt_entry.specs.Answers.{answer_of}
-use Rattle.rt_entry.specs.Presence.{Held, metas_in, after_difference, client_view, after_message, said_to, shown_meta}
+use Rattle.rt_entry.specs.Doings.{in_turn, channels_of, track_of, watches, diff_to, leave_diffs, depart, end_of, close, fail}
+use Rattle.rt_entry.specs.Presence.{Held, metas_in, after_difference, client_view, after_message, shown_meta}
 use Rattle.rt_laws.specs.After.{tracks_in}
 use Rattle.rt_laws.specs.Departures.{leave_for}
 use Rattle.rt_laws.specs.Views.{leaves_in}
