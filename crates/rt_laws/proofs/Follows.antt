@@ -1,10 +1,9 @@
 -- What clients hold after an input that is no frame and no stop.
-use Rattle.std.proofs.Common.{◌≡◌, ◌⊎◌, ℕ, suc, ◌+◌, ◌<◌, Bool, true, false, ◌&&◌, not, cond, List, [], ◌∷◌, ◌++◌, map, length, Option, Some, None, refl, sym, ap, subst, ◌∙◌, append-nil, arith}
-use Rattle.std.specs.Prelude.{⊤, ◌==◌, ◌^◌, codes, if◌then◌else◌, Contains, IsPermutation}
+use Rattle.std.proofs.Common.{◌≡◌, ℕ, ◌<◌, Bool, true, false, ◌&&◌, not, List, [], ◌∷◌, ◌++◌, map, Option, Some, None, refl, sym, ap, subst, ◌∙◌, append-nil}
+use Rattle.std.specs.Prelude.{⊤, ◌^◌, codes, if◌then◌else◌}
 use Rattle.std.specs.List.{filter, flat_map, enumerate_from}
 use Rattle.std.specs.Str.{bytes_eq}
 use Rattle.rt_value.specs.declared.row.Row.{Row}
-use Rattle.rt_phx.specs.declared.message.Message.{Message}
 use Rattle.rt_phx.specs.declared.end.EndName.{EndName}
 use Rattle.rt_phx.specs.declared.end.EndName.TheVariants as end_name
 use Rattle.rt_filter.specs.declared.subscription.Subscription.{Subscription}
@@ -20,42 +19,35 @@ use Rattle.rt_entry.specs.declared.story.Track.{Track}
 use Rattle.rt_entry.specs.declared.story.Part.{Part}
 use Rattle.rt_entry.specs.declared.story.Part.TheVariants.{Opens, Ends}
 use Rattle.rt_entry.specs.declared.entry.ChannelView.{ChannelView}
-use Rattle.rt_entry.specs.Story.{Story, Now, now_of, has, departed_in, is_last, standing_tracks, present_at, tables_left}
-use Rattle.rt_entry.specs.Messages.{metas_tree, presence_state}
-use Rattle.rt_entry.specs.Doings.{in_turn, channels_of, opening_in, depart, end_of, end_if_open, fail, open_parts, is_idle, has_run_out, tick_parts, subscriptions, view_of, opening_of, gets, change_parts, change_parts_to, change_parts_to_all, poll_parts, doings, story}
-use Rattle.rt_entry.specs.Answers.{answers_by}
-use Rattle.rt_entry.specs.Presence.{Held, metas_in, client_view, shown_meta, present_on}
-use Rattle.rt_laws.specs.After.{tracks_in, outlasts, tracks_after, after, done_by}
-use Rattle.rt_laws.specs.Departures.{heard}
+use Rattle.rt_entry.specs.Story.{Now, has, departed_in, is_last, standing_tracks}
+use Rattle.rt_entry.specs.Doings.{in_turn, channels_of, opening_in, end_of, end_if_open, fail, open_parts, is_idle, has_run_out, tick_parts, subscriptions, view_of, opening_of, gets, change_parts, change_parts_to, change_parts_to_all, poll_parts, doings}
+use Rattle.rt_entry.specs.Presence.{Held, client_view, shown_meta}
+use Rattle.rt_laws.specs.After.{tracks_after}
 use Rattle.rt_laws.specs.Follows.{IsOutside}
-use Rattle.rt_laws.specs.Members.{members_of_journal}
-use Rattle.rt_laws.proofs.Among.{Among, from_contains}
-use Rattle.rt_laws.proofs.Plain.{AllOf, all_append, all_flat, all_every, all_weaker, filter_all}
-use Rattle.rt_laws.proofs.Moves.{Moves, permuted}
-use Rattle.rt_laws.proofs.Metas.{read_again}
+use Rattle.rt_laws.proofs.Among.{Among}
+use Rattle.rt_laws.proofs.Plain.{AllOf, all_flat, all_every, filter_all}
+use Rattle.rt_laws.proofs.Moves.{Moves}
 use Rattle.rt_laws.proofs.Shapes.{AreApart}
-use Rattle.rt_laws.proofs.Sound.{Shaped, members_in, members_apart}
-use Rattle.rt_laws.proofs.Unique.{RisingMembers, members_rising}
-use Rattle.rt_laws.proofs.Tracked.{Apart, is_present}
-use Rattle.rt_laws.proofs.Journals.{story_shaped, story_grows}
+use Rattle.rt_laws.proofs.Unique.{RisingMembers}
+use Rattle.rt_laws.proofs.Tracked.{Apart}
 use Rattle.rt_laws.proofs.Hears.{hears}
-use Rattle.rt_laws.proofs.Turns.{IsMute, Turns, turns_then, turns_mute, turns_each, turns_depart, turns_fail, turns_end, shown_still}
+use Rattle.rt_laws.proofs.Turns.{IsMute, Turns, turns_then, turns_mute, turns_each, turns_fail, turns_end, shown_still}
 
 module _ (now : Now) (h : Member) (in_members : Among now.members h) (rises : RisingMembers now.members) (apart : AreApart now.members) (enabled : h.channel.presence ≡ true)
     (chans : Apart (λ (t : Track). t.channel) now.tracks) (refs : Apart (λ (t : Track). t.reference) now.tracks) (small : AllOf (λ (t : Track). t.reference < 2 ^ 64) now.tracks) where
-  abbrev Turn : List Part → List ℕ → Type 0
+  abbrev pub Turn : List Part → List ℕ → Type 0
   Turn ps gone = Turns now h in_members rises apart enabled chans refs small ps gone
 
-  then_turn : (ps qs : List Part) (gone : List ℕ) → Turn ps gone → Turn qs (departed_in ps ++ gone) → Turn (ps ++ qs) gone
+  pub then_turn : (ps qs : List Part) (gone : List ℕ) → Turn ps gone → Turn qs (departed_in ps ++ gone) → Turn (ps ++ qs) gone
   then_turn ps qs gone a b = turns_then now h in_members rises apart enabled chans refs small ps qs gone a b
 
-  mute_turn : (ps : List Part) (gone : List ℕ) → AllOf IsMute ps → Turn ps gone
+  pub mute_turn : (ps : List Part) (gone : List ℕ) → AllOf IsMute ps → Turn ps gone
   mute_turn ps gone a = turns_mute now h in_members rises apart enabled chans refs small ps gone a
 
-  end_turn : (gone : List ℕ) (slot : ℕ) (name : EndName) → Turn (end_of now gone slot name) gone
+  pub end_turn : (gone : List ℕ) (slot : ℕ) (name : EndName) → Turn (end_of now gone slot name) gone
   end_turn gone slot name = turns_end now h in_members rises apart enabled chans refs small gone slot name
 
-  end_if_turn : (slot : ℕ) (name : EndName) (o : Option Opening) → Turn (end_if_open now slot name o) []
+  pub end_if_turn : (slot : ℕ) (name : EndName) (o : Option Opening) → Turn (end_if_open now slot name o) []
   end_if_turn slot name None = mute_turn [] [] tt
   end_if_turn slot name (Some o) = end_turn [] slot name
 
@@ -88,7 +80,7 @@ module _ (now : Now) (h : Member) (in_members : Among now.members h) (rises : Ri
           | false ↦ all_flat IsMute (change_parts_to c s subs tables ch) views (λ to. mute_change to ch (filter (gets c s tables ch to.channel) subs))
         ]
 
-    outside_turn : (tables : List (List Row)) (i : Input) → IsOutside i → Turn (doings c s now tables i) []
+    pub outside_turn : (tables : List (List Row)) (i : Input) → IsOutside i → Turn (doings c s now tables i) []
     unfolding doings poll_parts
     outside_turn tables (Opened slot version claims) k = open_turn slot (opening_of now version claims)
     outside_turn tables (Gone slot) k = end_if_turn slot end_name.Gone (opening_in now slot)
@@ -105,12 +97,11 @@ module _ (now : Now) (h : Member) (in_members : Among now.members h) (rises : Ri
   on t = bytes_eq t.topic h.channel.topic
 
   -- the tracks behind parts that track nothing
-  after_with : List ℕ → List (ℕ × Option Track) → List Track
+  abbrev pub after_with : List ℕ → List (ℕ × Option Track) → List Track
   after_with ds xs = filter (λ (t : Track). is_last t.channel xs && not (has t.channel ds)) now.tracks ++ standing_tracks xs
 
-  turn_holds : (ps : List Part) (held : List Held) → Turn ps [] → has h.channel.number (departed_in ps) ≡ false → Moves held (map shown_meta (filter on now.tracks))
+  pub turn_holds : (ps : List Part) (held : List Held) → Turn ps [] → has h.channel.number (departed_in ps) ≡ false → Moves held (map shown_meta (filter on now.tracks))
       → Moves (client_view held (hears h.channel ps)) (map shown_meta (filter on (tracks_after now.tracks ps)))
-  unfolding after_with
   turn_holds ps held t stays m =
       let n = h.channel.number in
       let ds = departed_in ps in
@@ -124,33 +115,3 @@ module _ (now : Now) (h : Member) (in_members : Among now.members h) (rises : Ri
       ∙ sym (append-nil (filter (λ (u : Track). not (has u.channel ds)) now.tracks))
       ∙ ap (after_with ds) (sym t.tracks)) in
       subst Q last (t.holds held (ap (has n) (append-nil ds) ∙ stays) (subst P (sym first) m))
-
-module _ (c : Catalog) (s : Settings) where
-  story_length : (journal : List Input) → length (story c s journal) ≡ length journal
-  unfolding story
-  story_length [] = refl
-  story_length (i ∷ before) = ap suc (story_length before)
-
-  tracks_next : (journal : List Input) (i : Input) → present_at (story c s (i ∷ journal)) ≡ tracks_after (present_at (story c s journal)) (done_by c s journal i)
-  unfolding now_of after
-  tracks_next journal i = ap (λ (n : Now). n.tracks) (story_grows c s journal i)
-
-  pub clients_follow : (journal : List Input) (i : Input) (h : Member) → length journal < 2 ^ 64 → IsOutside i → Contains (members_of_journal c s journal) h → h.channel.presence ≡ true
-      → has h.channel.number (departed_in (done_by c s journal i)) ≡ false
-      → IsPermutation (client_view [] (presence_state h.channel (present_on c s journal h.channel.topic) ∷ heard c s journal i h.channel)) (map shown_meta (present_on c s (i ∷ journal) h.channel.topic))
-  unfolding answers_by now_of
-  clients_follow journal i h short k known enabled stays =
-      let st = story c s journal in
-      let sh = story_shaped c s journal in
-      let now = now_of st in
-      let here = from_contains (members_in st) h known in
-      let g = is_present st sh in
-      let l = story_length journal in
-      let small = all_weaker (λ (t : Track). t.reference < length st) (λ (t : Track). t.reference < 2 ^ 64) (present_at st) (λ t lt. omega arith) g.small in
-      let tables = tables_left c st i in
-      let ts = present_on c s journal h.channel.topic in
-      let on : Track → Bool = λ t. bytes_eq t.topic h.channel.topic in
-      let turn = outside_turn now h here (members_rising st sh) (members_apart st sh) enabled g.channels g.references small c s tables i k in
-      let moved = turn_holds now h here (members_rising st sh) (members_apart st sh) enabled g.channels g.references small (doings c s now tables i) (metas_in (metas_tree ts)) turn stays (read_again ts) in
-      let P : List Track → Type 0 = λ us. Moves (client_view (metas_in (metas_tree ts)) (heard c s journal i h.channel)) (map shown_meta (filter on us)) in
-      permuted (client_view (metas_in (metas_tree ts)) (heard c s journal i h.channel)) (map shown_meta (present_on c s (i ∷ journal) h.channel.topic)) (subst P (sym (tracks_next journal i)) moved)

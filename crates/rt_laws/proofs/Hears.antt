@@ -1,6 +1,6 @@
 -- What a channel hears of differences.
-use Rattle.std.proofs.Common.{◌≡◌, ◌⊎◌, ℕ, ◌+◌, ◌<◌, Bool, true, false, ◌||◌, ◌&&◌, not, cond, List, [], ◌∷◌, ◌++◌, map, Option, Some, None, refl, sym, ap, subst, ◌∙◌, append-nil, arith, inl, inr, eqb}
-use Rattle.std.specs.Prelude.{⊤, ◌==◌, ◌≢◌, Contains}
+use Rattle.std.proofs.Common.{◌≡◌, ℕ, ◌<◌, Bool, true, false, ◌||◌, ◌&&◌, not, cond, List, [], ◌∷◌, ◌++◌, map, Option, Some, None, refl, sym, ap, ◌∙◌, append-nil, arith, inl, inr}
+use Rattle.std.specs.Prelude.{◌==◌, ◌≢◌, Contains}
 use Rattle.std.specs.List.{filter, filter_map, flat_map, cons_option}
 use Rattle.std.specs.Str.{bytes_eq}
 use Rattle.std.proofs.lemmas.Bool.Decides.{eqb_tells}
@@ -18,11 +18,11 @@ use Rattle.rt_entry.specs.declared.story.Channel.{Channel}
 use Rattle.rt_entry.specs.declared.story.Member.{Member}
 use Rattle.rt_entry.specs.declared.story.Track.{Track}
 use Rattle.rt_entry.specs.declared.story.Part.{Part}
-use Rattle.rt_entry.specs.declared.story.Part.TheVariants.{Ends, Tells, Departs}
+use Rattle.rt_entry.specs.declared.story.Part.TheVariants.{Ends}
 use Rattle.rt_entry.specs.Story.{Story, Now, now_of, has, departed_in}
 use Rattle.rt_entry.specs.Messages.{presence_diff}
 use Rattle.rt_entry.specs.Doings.{in_turn, is_of_slot, is_on, channels_of, opening_in, track_of, watches, diff_to, diffs, leave_diffs, depart, end_of, end_if_open, doings, story}
-use Rattle.rt_entry.specs.Answers.{answer_of, answers_by, answers}
+use Rattle.rt_entry.specs.Answers.{answer_of, answers_by}
 use Rattle.rt_entry.specs.Presence.{said_to}
 use Rattle.rt_laws.specs.Departures.{leave_for, found_by, heard}
 use Rattle.rt_laws.proofs.Among.{Among, from_contains, among_filter, filter_among}
@@ -89,7 +89,7 @@ same_number n m e = elim (eqb_tells n m) [ inl t ↦ t.1 | inr t ↦ absurd (let
 filter_turn : {A : Type 0} (p q : A → Bool) (xs : List A) → filter p (filter q xs) ≡ filter q (filter p xs)
 filter_turn p q xs = sym (filter_and p q xs) ∙ filter_same (λ x. q x && p x) (λ x. p x && q x) (λ x. and_swap (q x) (p x)) xs ∙ filter_and q p xs
 
-no_departures : (joins leaves : List Track) (ms : List Member) → departed_in (map (diff_to joins leaves) ms) ≡ []
+pub no_departures : (joins leaves : List Track) (ms : List Member) → departed_in (map (diff_to joins leaves) ms) ≡ []
 no_departures joins leaves [] = refl
 no_departures joins leaves (m ∷ ms) = no_departures joins leaves ms
 

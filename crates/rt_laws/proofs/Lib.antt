@@ -1,9 +1,11 @@
 mod Allowed
 pub mod Among
+mod Clients
 mod Columns
 mod Due
 pub mod Fans
 mod Follows
+mod Frames
 pub mod Given
 pub mod Good
 pub mod Grows

@@ -1,7 +1,7 @@
 -- What is present in every journal.
-use Rattle.std.proofs.Common.{◌≡◌, ◌⊎◌, ℕ, suc, ◌+◌, ◌<◌, Bool, true, false, ◌||◌, List, [], ◌∷◌, map, length, refl, sym, ap, subst, ◌∙◌, arith, inl, inr}
+use Rattle.std.proofs.Common.{◌≡◌, ℕ, suc, ◌<◌, Bool, true, false, ◌||◌, List, [], ◌∷◌, length, refl, sym, ap, subst, ◌∙◌, inl, inr}
 use Rattle.std.specs.Prelude.{◌==◌, Contains}
-use Rattle.std.specs.List.{filter, list_any}
+use Rattle.std.specs.List.{list_any}
 use Rattle.std.proofs.lemmas.Bool.Decides.{eqb_tells}
 use Rattle.rt_catalog.specs.declared.catalog.Catalog.{Catalog}
 use Rattle.rt_entry.specs.declared.input.Input.{Input}
@@ -11,11 +11,10 @@ use Rattle.rt_entry.specs.declared.story.Member.{Member}
 use Rattle.rt_entry.specs.declared.story.Track.{Track}
 use Rattle.rt_entry.specs.Story.{Story, now_of, members_at, member_in, all_tracks, standing_tracks, present_at}
 use Rattle.rt_entry.specs.Doings.{story}
-use Rattle.rt_laws.specs.Members.{members_of_journal}
 use Rattle.rt_laws.specs.Tracks.{tracks_of_journal, IsMembers}
 use Rattle.rt_laws.proofs.Among.{Among, from_contains, to_contains, among_filter, map_among}
 use Rattle.rt_laws.proofs.Plain.{all_among}
-use Rattle.rt_laws.proofs.Sound.{Shaped, members_in}
+use Rattle.rt_laws.proofs.Sound.{members_in}
 use Rattle.rt_laws.proofs.Tracked.{is_present}
 use Rattle.rt_laws.proofs.Journals.{story_shaped}
 

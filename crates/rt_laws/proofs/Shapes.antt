@@ -167,7 +167,7 @@ plain_broadcast n now ch m =
     (plain_tell_if n ch.ack ch.slot (reply_ok ch.join_ref m no_members) refl) (all_map (Plain true n) (broadcast_part m) to (λ h. refl))
 
 -- the number of a channel that a join makes
-abbrev IsMade : ℕ → ℕ → List ℕ → Checked Channel → Type 0
+abbrev pub IsMade : ℕ → ℕ → List ℕ → Checked Channel → Type 0
 IsMade n slot topic (Ok ch) = (ch.number ≡ n) × (ch.slot ≡ slot) × (ch.topic ≡ topic)
 IsMade n slot topic (Err why) = ⊤
 
@@ -244,7 +244,7 @@ module _ (now : Now) (a : AllOf (Below now.number) now.members) (apart : AreApar
   abbrev closes : Option Member → List Part
   closes o = in_turn (close now) [] (option_to_list o)
 
-  room : (slot : ℕ) (topic : List ℕ) (h : Member) → Among now.members h → h.channel.slot ≡ slot → h.channel.topic ≡ topic → has h.channel.number (departed_in (closes (channel_on now slot topic))) ≡ true
+  pub room : (slot : ℕ) (topic : List ℕ) (h : Member) → Among now.members h → h.channel.slot ≡ slot → h.channel.topic ≡ topic → has h.channel.number (departed_in (closes (channel_on now slot topic))) ≡ true
   room slot topic h here e t =
       ap (λ (o : Option Member). has h.channel.number (departed_in (closes o))) (found_one slot topic h here e t)
       ∙ or_left (h.channel.number == h.channel.number) _ (eqb_same h.channel.number)
@@ -261,7 +261,7 @@ module _ (now : Now) (a : AllOf (Below now.number) now.members) (apart : AreApar
   shape_result slot gone m front (Err why) f n room = plain (all_append (Plain true now.number) front (tell slot (reply_error m.join_ref m why)) f (refl, tt))
 
   module _ (c : Catalog) (s : Settings) where
-    join_made : (slot : ℕ) (o : Opening) (others : ℕ) (m : Message) → IsMade now.number slot m.topic (channel_of_join c s now slot o others m)
+    pub join_made : (slot : ℕ) (o : Opening) (others : ℕ) (m : Message) → IsMade now.number slot m.topic (channel_of_join c s now slot o others m)
     unfolding channel_of_join
     join_made slot o others m =
         let made : Config → Claims → ℕ → List Subscribed → Checked Channel = λ config claims role bindings. Ok (record {

@@ -1,7 +1,7 @@
 -- What a member's client holds after parts that let channels depart.
-use Rattle.std.proofs.Common.{◌≡◌, ◌⊎◌, ℕ, ◌+◌, ◌<◌, Bool, true, false, ◌||◌, ◌&&◌, not, cond, List, [], ◌∷◌, ◌++◌, map, Option, Some, None, refl, sym, ap, subst, ◌∙◌, append-nil, arith, inl, inr, eqb}
+use Rattle.std.proofs.Common.{◌≡◌, ℕ, ◌<◌, Bool, true, false, ◌||◌, ◌&&◌, not, cond, List, [], ◌∷◌, ◌++◌, map, Option, Some, None, refl, sym, ap, subst, ◌∙◌, append-nil, inl, inr}
 use Rattle.std.specs.Prelude.{⊤, ◌==◌, ◌^◌, codes, find}
-use Rattle.std.specs.List.{filter, filter_map, flat_map, list_any, cons_option}
+use Rattle.std.specs.List.{filter, cons_option}
 use Rattle.std.specs.Str.{bytes_eq}
 use Rattle.std.proofs.lemmas.Bool.Decides.{eqb_tells}
 use Rattle.std.proofs.lemmas.List.Concat.{flat_map-append}
@@ -16,9 +16,8 @@ use Rattle.rt_entry.specs.declared.story.Part.{Part}
 use Rattle.rt_entry.specs.declared.story.Part.TheVariants.{Opens, Ends, Tells, Joins, Renews, Tracks, Untracks, Departs}
 use Rattle.rt_entry.specs.Story.{Now, has, departed_by, departed_in, tracked_by}
 use Rattle.rt_entry.specs.Messages.{presence_diff, close_message, failed_message}
-use Rattle.rt_entry.specs.Doings.{in_turn, channels_of, track_of, watches, diff_to, diffs, leave_diffs, depart, end_of, close, fail}
-use Rattle.rt_entry.specs.Answers.{answer_of}
-use Rattle.rt_entry.specs.Presence.{Held, metas_in, after_difference, client_view, after_message, said_to, shown_meta}
+use Rattle.rt_entry.specs.Doings.{in_turn, channels_of, track_of, watches, diff_to, leave_diffs, depart, end_of, close, fail}
+use Rattle.rt_entry.specs.Presence.{Held, metas_in, after_difference, client_view, after_message, shown_meta}
 use Rattle.rt_laws.specs.After.{tracks_in}
 use Rattle.rt_laws.specs.Departures.{leave_for}
 use Rattle.rt_laws.specs.Views.{leaves_in}
@@ -82,7 +81,7 @@ mute_or : (held : List Held) (m : Message) (ms : List Message) (b : Bool) → Mu
 mute_or held m ms true q e = ap (λ (x : List Held). client_view x ms) (mute_message held m q) ∙ e
 mute_or held m ms false q e = e
 
-mute_view : (ch : Channel) (held : List Held) (ps : List Part) → AllOf IsMute ps → client_view held (hears ch ps) ≡ held
+pub mute_view : (ch : Channel) (held : List Held) (ps : List Part) → AllOf IsMute ps → client_view held (hears ch ps) ≡ held
 mute_view ch held [] a = refl
 mute_view ch held (Opens s o ∷ ps) a = mute_view ch held ps a.1
 mute_view ch held (Ends s e ∷ ps) a = mute_view ch held ps a.1
@@ -111,7 +110,7 @@ or_second : (x y : Bool) → (x || y) ≡ false → y ≡ false
 or_second true y e = absurd (cc)
 or_second false y e = e
 
-eqb_turn : (n m : ℕ) → (n == m) ≡ (m == n)
+pub eqb_turn : (n m : ℕ) → (n == m) ≡ (m == n)
 eqb_turn n m = elim (eqb_tells n m) [
   | inl t ↦ t.0 ∙ sym (same_true m n (sym t.1))
   | inr t ↦ t.0 ∙ sym (other_false m n (λ e. t.1 (sym e)))
@@ -128,7 +127,7 @@ none_case : (n : ℕ) (t : Track) (ts : List Track) (b : Bool) → (t.channel ==
 none_case n t ts true e f g = absurd (cc)
 none_case n t ts false e f g = (e, f g)
 
-none_found : (n : ℕ) (ts : List Track) → find (λ (t : Track). t.channel == n) ts ≡ None → AllOf (λ (t : Track). (t.channel == n) ≡ false) ts
+pub none_found : (n : ℕ) (ts : List Track) → find (λ (t : Track). t.channel == n) ts ≡ None → AllOf (λ (t : Track). (t.channel == n) ≡ false) ts
 none_found n [] e = tt
 none_found n (t ∷ ts) e = none_case n t ts (t.channel == n) refl (none_found n ts) e
 
@@ -137,20 +136,20 @@ one_case : (n : ℕ) (t u : Track) (ts : List Track) (b : Bool) → (t.channel =
 one_case n t u ts true e f g = let same : t ≡ u = cc in (inl same, ap (λ (x : Track). x.channel == n) (sym same) ∙ e)
 one_case n t u ts false e f g = let r = f g in (inr r.0, r.1)
 
-one_found : (n : ℕ) (ts : List Track) (u : Track) → find (λ (t : Track). t.channel == n) ts ≡ Some u → Among ts u × ((u.channel == n) ≡ true)
+pub one_found : (n : ℕ) (ts : List Track) (u : Track) → find (λ (t : Track). t.channel == n) ts ≡ Some u → Among ts u × ((u.channel == n) ≡ true)
 one_found n [] u e = absurd (cc)
 one_found n (t ∷ ts) u e = one_case n t u ts (t.channel == n) refl (one_found n ts u) e
 
-same_true : (n m : ℕ) → n ≡ m → (n == m) ≡ true
+pub same_true : (n m : ℕ) → n ≡ m → (n == m) ≡ true
 same_true n m e = elim (eqb_tells n m) [ inl t ↦ t.0 | inr t ↦ absurd (t.1 e) ]
 
-other_false : (n m : ℕ) → (n ≡ m → ⊥) → (n == m) ≡ false
+pub other_false : (n m : ℕ) → (n ≡ m → ⊥) → (n == m) ≡ false
 other_false n m ne = elim (eqb_tells n m) [ inl t ↦ absurd (ne t.1) | inr t ↦ t.0 ]
 
-same_number : (n m : ℕ) → (n == m) ≡ true → n ≡ m
+pub same_number : (n m : ℕ) → (n == m) ≡ true → n ≡ m
 same_number n m e = elim (eqb_tells n m) [ inl t ↦ t.1 | inr t ↦ absurd (let k : true ≡ false = sym e ∙ t.0 in cc) ]
 
-no_track_parts : (joins leaves : List Track) (ms : List Member) → tracks_in (map (diff_to joins leaves) ms) ≡ []
+pub no_track_parts : (joins leaves : List Track) (ms : List Member) → tracks_in (map (diff_to joins leaves) ms) ≡ []
 no_track_parts joins leaves [] = refl
 no_track_parts joins leaves (m ∷ ms) = no_track_parts joins leaves ms
 
@@ -239,7 +238,7 @@ module _ (now : Now) (h : Member) (in_members : Among now.members h) (rises : Ri
 
   -- a channel departs
 
-  of_one : (n : ℕ) (t x : Track) → Among now.tracks t → Among now.tracks x → t.channel ≡ n → (t.reference == x.reference) ≡ (n == x.channel)
+  pub of_one : (n : ℕ) (t x : Track) → Among now.tracks t → Among now.tracks x → t.channel ≡ n → (t.reference == x.reference) ≡ (n == x.channel)
   of_one n t x a b e = elim (eqb_tells n x.channel) [
     | inl k ↦ same_true t.reference x.reference (ap (λ (u : Track). u.reference) (chans t x a b (e ∙ k.1))) ∙ sym k.0
     | inr k ↦ other_false t.reference x.reference (λ r. k.1 (sym e ∙ ap (λ (u : Track). u.channel) (refs t x a b r))) ∙ sym k.0
@@ -277,7 +276,7 @@ module _ (now : Now) (h : Member) (in_members : Among now.members h) (rises : Ri
       (λ u b. tests_off (n == u.channel) (has u.channel gone) (on u) (λ k. ap on (sym (chans t u a b (e ∙ same_number n u.channel k))) ∙ off)) (all_themselves now.tracks))
       ∙ sym (still_is (n ∷ gone)))
 
-  on_turn : (t : Track) (b : Bool) → bytes_eq h.channel.topic t.topic ≡ b → on t ≡ b
+  pub on_turn : (t : Track) (b : Bool) → bytes_eq h.channel.topic t.topic ≡ b → on t ≡ b
   on_turn t true e = (bytes_eq-Decides t.topic h.channel.topic).1 (sym ((bytes_eq-Decides h.channel.topic t.topic).0 e))
   on_turn t false e = off_of (on t) refl where
     off_of : (x : Bool) → on t ≡ x → on t ≡ false
@@ -289,7 +288,7 @@ module _ (now : Now) (h : Member) (in_members : Among now.members h) (rises : Ri
   leave_case gone n t held true k a e m = leave_on gone n t held a e m
   leave_case gone n t held false k a e m = let P : List Held → Type 0 = Moves held in subst P (leave_off gone n t a e (on_turn t false k)) m
 
-  leave_view : (gone : List ℕ) (n : ℕ) (o : Option Track) (held : List Held) → track_of now n ≡ o → Moves held (shown_still gone) → Moves (client_view held (leave_for h.channel o)) (shown_still (n ∷ gone))
+  pub leave_view : (gone : List ℕ) (n : ℕ) (o : Option Track) (held : List Held) → track_of now n ≡ o → Moves held (shown_still gone) → Moves (client_view held (leave_for h.channel o)) (shown_still (n ∷ gone))
   leave_view gone n None held e m = let P : List Held → Type 0 = Moves held in subst P (leave_none gone n e) m
   leave_view gone n (Some t) held e m =
       let f = one_found n now.tracks t e in

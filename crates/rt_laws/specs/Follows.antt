@@ -1,5 +1,5 @@
--- What a client holds after an input that is no frame and no stop.
-use Rattle.std.specs.Prelude.{◌≡◌, ℕ, ◌<◌, ◌^◌, true, false, ⊤, List, [], ◌∷◌, map, length, Contains, IsPermutation}
+-- What a client holds after an input that is no stop.
+use Rattle.std.specs.Prelude.{◌≡◌, ◌<◌, ◌^◌, true, false, ⊤, List, [], ◌∷◌, map, length, Contains, IsPermutation}
 use Rattle.rt_catalog.specs.declared.catalog.Catalog.{Catalog}
 use Rattle.rt_entry.specs.declared.input.Input.{Input}
 use Rattle.rt_entry.specs.declared.input.Input.TheVariants.{Opened, Frame, Gone, Poll, Tick, Stop}
@@ -21,13 +21,18 @@ IsOutside (Poll changes) = ⊤
 IsOutside (Tick moment) = ⊤
 IsOutside Stop = ⊥
 
+-- any input but a stop
+abbrev pub IsNoStop : Input → Type 0
+IsNoStop Stop = ⊥
+IsNoStop _ = ⊤
+
 module _ (c : Catalog) (s : Settings) where
   -- A member with presence enabled that was told what is present on its topic, and that the input doesn't let depart, holds with what the input says to
   -- it what is present then, up to order.
   abbrev pub ClientsFollow : Type 0
   ClientsFollow =
       (journal : List Input) (i : Input) (h : Member)
-      → length journal < 2 ^ 64 → IsOutside i
+      → length journal < 2 ^ 64 → IsNoStop i
       → Contains (members_of_journal c s journal) h → h.channel.presence ≡ true → has h.channel.number (departed_in (done_by c s journal i)) ≡ false
       → IsPermutation (client_view [] (presence_state h.channel (present_on c s journal h.channel.topic) ∷ heard c s journal i h.channel))
       (map shown_meta (present_on c s (i ∷ journal) h.channel.topic))

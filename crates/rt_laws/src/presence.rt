@@ -16,7 +16,7 @@ pub fn departures_are_told()
 {}
 
 /// A member with presence enabled that was told what is present on its topic holds, with what the next input says to it, what is present then, up to
-/// order: for every input but frames and a stop, where the input doesn't let it depart.
+/// order: for every input but a stop, where the input doesn't let it depart.
 pub fn clients_follow()
     ensures { (c : CatalogData) (s : SettingsData) → ClientsFollow c s }
 {}

@@ -1,4 +1,4 @@
-use Rattle.rt_laws.proofs.Follows.{clients_follow}
+use Rattle.rt_laws.proofs.Clients.{clients_follow}
 use Rattle.rt_laws.proofs.presence.clients_follow.Goals as goal
 
 pub returns : goal.returns
