@@ -1,4 +1,4 @@
-use Rattle.std.proofs.Common.{◌≡◌, ◌≤◌, ℕ, ◌-◌, List, ◌++◌, true, ap, sym, ◌∙◌, take, drop, length, length-drop}
+use Rattle.std.proofs.Common.{◌≡◌, ◌≤◌, ℕ, ◌-◌, List, ◌++◌, true, refl, ap, subst, sym, ◌∙◌, arith, take, drop, length, length-append, length-drop}
 use Rattle.std.specs.List.{list_all}
 use Rattle.rt_json.specs.Machine as m
 use Rattle.rt_json.specs.Machine.{bad}
