@@ -1,8 +1,8 @@
 -- The pieces of a token by its dots.
-use Rattle.std.proofs.Common.{◌≡◌, ℕ, ◌+◌, ◌-◌, ◌<◌, List, [], ◌∷◌, ◌++◌, length, take, drop, Option, Some, None, refl, ap, sym, ◌∙◌, subst, arith, append_assoc, length-append, length-take, length-drop}
+use Rattle.std.proofs.Common.{◌≡◌, ℕ, ◌+◌, ◌-◌, ◌<◌, List, [], ◌∷◌, ◌++◌, length, take, drop, Some, None, refl, ap, sym, ◌∙◌, arith, append_assoc, length-append, length-take, length-drop}
 use Rattle.std.proofs.lemmas.List.{take-append-drop, take_at, take_all}
 use Rattle.std.specs.Prelude.{◌==◌, Bool, true, false}
-use Rattle.rt_token.specs.Parts.{Parts, pieces_from, three, parts_of, signed_bytes}
+use Rattle.rt_token.specs.Parts.{pieces_from, three, parts_of}
 use Rattle.rt_token.specs.Lent.{IsFirstDot}
 
 -- there is a piece

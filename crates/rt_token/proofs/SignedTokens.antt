@@ -1,5 +1,5 @@
 -- The token of signed claims, and that it passes.
-use Rattle.std.proofs.Common.{◌≡◌, ℕ, ◌+◌, ◌<◌, zero, suc, List, [], ◌∷◌, ◌++◌, length, get_or, Option, Some, None, Result, Ok, Err, refl, ap, sym, ◌∙◌, arith, append_assoc}
+use Rattle.std.proofs.Common.{◌≡◌, ℕ, List, [], ◌∷◌, ◌++◌, ap, ◌∙◌, append_assoc}
 use Rattle.rt_token.specs.Hmac.{hmac_sha256}
 use Rattle.rt_token.specs.Parts.{part_of}
 use Rattle.rt_token.specs.Tokens.{token_head, signed_token}

@@ -84,12 +84,7 @@ fn valid_at(exp: Option<u64>, seconds: u64) -> Result<(), TokenFault>
 /// - `Expired`: the second is `exp` or later.
 /// - `NoRole`: the payload's `role` isn't a text.
 #[tactic(auto, unfolding(crate::specs::Tokens::claims_in_token))]
-pub fn check(
-    alloc: Global,
-    secret: &[u8],
-    text: &[u8],
-    seconds: u64,
-) -> Result<Claims, TokenFault>
+pub fn check(alloc: Global, secret: &[u8], text: &[u8], seconds: u64) -> Result<Claims, TokenFault>
     ensures { IsAnswer (claims_in_token secret.now text.now seconds) result }
 {
     let Some(parts) = cut(text) else {

@@ -5,9 +5,12 @@ mod checking;
 mod claims;
 mod comparing;
 mod fault;
+pub mod laws;
 mod mac;
 mod parts;
 mod signing;
+#[cfg(test)]
+mod tests;
 
 pub use checking::check;
 pub use claims::claims_of;

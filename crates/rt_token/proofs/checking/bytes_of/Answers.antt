@@ -1,4 +1,4 @@
-use Rattle.std.proofs.Common.{◌≡◌, Some, ap, sym, ◌∙◌}
+use Rattle.std.proofs.Common.{Some, ap, sym, ◌∙◌}
 use Rattle.base64.specs.Engines.{url_safe_no_pad}
 use Rattle.rt_token.proofs.Decoded.{decoded, not_decoded}
 use Rattle.rt_token.proofs.checking.bytes_of.Goals as goal

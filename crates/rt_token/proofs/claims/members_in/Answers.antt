@@ -1,7 +1,6 @@
 use Rattle.std.proofs.Common.{ap, sym, ◌∙◌, subst, List}
 use Rattle.std.specs.Prelude.{map, IfOk}
 use Rattle.std.proofs.Common.{◌≡◌}
-use Rattle.rt_json.specs.declared.tree.Json.{Json}
 use Rattle.rt_json.specs.declared.tree.named.Member.{Member}
 use Rattle.rt_json.specs.Lookup.{members_of}
 use Rattle.rt_json.proofs.Lookups.{object_members}

@@ -1,4 +1,4 @@
-use Rattle.std.proofs.Common.{◌≡◌, ℕ, sym, ap, ◌∙◌, false, true, arith}
+use Rattle.std.proofs.Common.{ℕ, sym, ap, ◌∙◌}
 use Rattle.std.proofs.lemmas.Bool.{le-leb, eqb-false, lt-leb}
 use Rattle.rt_value.specs.Choice.{some_if}
 use Rattle.rt_token.specs.Claims.{exp_limit}

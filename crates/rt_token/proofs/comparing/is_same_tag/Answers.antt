@@ -1,4 +1,4 @@
-use Rattle.std.proofs.Common.{rules, refl, length}
+use Rattle.std.proofs.Common.{rules, length}
 use Rattle.std.proofs.lemmas.Slice.Zip.{zip_end}
 use Rattle.rt_token.proofs.Compared.{all_compared}
 use Rattle.rt_token.proofs.comparing.is_same_tag.Goals as goal

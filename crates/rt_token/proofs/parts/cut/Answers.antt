@@ -1,4 +1,4 @@
-use Rattle.std.proofs.Common.{◌+◌, List, ℕ}
+use Rattle.std.proofs.Common.{◌+◌}
 use Rattle.rt_token.proofs.Pieces.{rest_is, too_many, are_parts, are_signed}
 use Rattle.rt_token.proofs.parts.cut.Goals as goal
 

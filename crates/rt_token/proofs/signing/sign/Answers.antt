@@ -1,4 +1,4 @@
-use Rattle.std.proofs.Common.{◌≡◌, ◌<◌, refl, ap, sym, ◌∙◌, subst, Vec, ℕ, List, Global, arith}
+use Rattle.std.proofs.Common.{◌≡◌, ap, sym, ◌∙◌, subst, Vec, ℕ, List, Global, arith}
 use Rattle.rt_token.specs.Tokens.{claims_in_token, claims_in_payload, signed_token}
 use Rattle.rt_token.proofs.Accepted.{accepted}
 use Rattle.rt_token.proofs.Digests.{tag_bytes}
