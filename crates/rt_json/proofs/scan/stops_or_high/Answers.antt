@@ -1,4 +1,4 @@
-use Rattle.std.proofs.Common.{ℕ, ◌+◌, ◌-◌, ◌%◌, arith, not}
+use Rattle.std.proofs.Common.{◌+◌, ◌-◌, ◌%◌, arith, not}
 use Rattle.std.proofs.lemmas.Simd.{zip2_splat}
 use Rattle.rt_json.specs.Reads.{is_ascii_plain}
 use Rattle.rt_json.proofs.Lanes.{hit, at_most, either, from_splat, masked}

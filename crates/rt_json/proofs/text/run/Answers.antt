@@ -1,4 +1,4 @@
-use Rattle.std.proofs.Common.{◌≡◌, List, ℕ, ◌-◌, ◌++◌, ◌∙◌, ap, sym, subst, take, drop, arith}
+use Rattle.std.proofs.Common.{◌≡◌, List, ℕ, ◌-◌, ◌++◌, ◌∙◌, ap, sym, subst, take, drop}
 use Rattle.std.specs.Prelude.{IsUtf8}
 use Rattle.rt_json.specs.Machine as m
 use Rattle.rt_json.specs.Reads.{at_text}

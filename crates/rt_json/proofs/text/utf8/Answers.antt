@@ -1,4 +1,4 @@
-use Rattle.std.proofs.Common.{◌≡◌, ℕ, ◌-◌, List, ◌++◌, ap, sym, ◌∙◌, take, drop, length, length-append, length-drop}
+use Rattle.std.proofs.Common.{◌≡◌, ℕ, ◌-◌, List, ◌++◌, ap, sym, ◌∙◌, take, drop, length, length-drop}
 use Rattle.rt_json.specs.Machine as m
 use Rattle.rt_json.specs.Machine.{bad}
 use Rattle.rt_json.specs.Reads.{past_plain, at_text}

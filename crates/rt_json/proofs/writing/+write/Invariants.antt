@@ -1,4 +1,4 @@
-use Rattle.std.proofs.Common.{◌≡◌, ◌++◌, ◌∷◌, [], drop}
+use Rattle.std.proofs.Common.{◌≡◌, ◌++◌, ◌∷◌, drop}
 use Rattle.rt_json.specs.Written.{written, written_member, listed}
 use Rattle.rt_json.proofs.Spelled.{left_listed}
 use Rattle.rt_json.proofs.writing.+write.Given as goal
