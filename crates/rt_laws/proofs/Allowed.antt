@@ -46,13 +46,15 @@ bytes_in (item.End name) = []
 no_end : (bytes : List ℕ) → item.End OutboxFull ≡ item.Message bytes → ⊥
 no_end bytes e = cc
 
-shown_end : (t : Bool) (bytes : List ℕ) (p : Placed) → Among (elim t as (λ u. List Item) [ true ↦ item.End OutboxFull ∷ [] | false ↦ [] ]) (item.Message bytes) → p.item ≡ item.Message bytes
+shown_end : (t : Bool) (bytes : List ℕ) (p : Placed)
+    → Among (elim t as (λ u. List Item) [ true ↦ item.End OutboxFull ∷ [] | false ↦ [] ]) (item.Message bytes) → p.item ≡ item.Message bytes
 shown_end true bytes p (inl e) = absurd (no_end bytes e)
 shown_end true bytes p (inr h) = absurd h
 shown_end false bytes p h = absurd h
 
 shown_cut : (t u : Bool) (bytes : List ℕ) (p : Placed)
-    → Among (elim t as (λ v. List Item) [ true ↦ p.item ∷ [] | false ↦ elim u as (λ v. List Item) [ true ↦ item.End OutboxFull ∷ [] | false ↦ [] ] ]) (item.Message bytes) → p.item ≡ item.Message bytes
+    → Among (elim t as (λ v. List Item) [ true ↦ p.item ∷ [] | false ↦ elim u as (λ v. List Item) [ true ↦ item.End OutboxFull ∷ [] | false ↦ [] ] ]) (item.Message bytes)
+    → p.item ≡ item.Message bytes
 shown_cut true u bytes p (inl e) = e
 shown_cut true u bytes p (inr h) = absurd h
 shown_cut false u bytes p h = shown_end u bytes p h
@@ -75,7 +77,8 @@ shown_due items cuts bytes h =
 
 -- a message that is spelled was said
 
-spelled_said : (v : Version) (answers : List Answer) (bytes : List ℕ) → Among (spell v answers) (item.Message bytes) → (w : Version) × (m : Message) × Among answers (a.Says m) × (bytes ≡ spelled w m)
+spelled_said : (v : Version) (answers : List Answer) (bytes : List ℕ) → Among (spell v answers) (item.Message bytes)
+    → (w : Version) × (m : Message) × Among answers (a.Says m) × (bytes ≡ spelled w m)
 spelled_said v [] bytes h = absurd h
 spelled_said v (a.Opened w ∷ rest) bytes h = let r = spelled_said w rest bytes h in (r.0, r.1, inr r.2, r.3)
 spelled_said v (a.Says m ∷ rest) bytes (inl e) = (v, m, inl refl, sym (ap bytes_in e))
@@ -140,7 +143,8 @@ fine_parts n hs ps (tracking front t back f g k lt own e) =
     subst (AllOf FinePart) (sym e)
     (all_append FinePart front (Tracks t ∷ back) (all_weaker (Quiet true) FinePart front fine_quiet f) ((λ slot m x. absurd (cc)), all_weaker (Quiet true) FinePart back fine_quiet g))
 
-fine_says : (n : ℕ) (hs : List Member) (ps : List Part) (slot : ℕ) (m : Message) → Shape true n hs ps → Among (filter_map answer_of ps) (slot, a.Says m) → m.event ≡ codes "postgres_changes" → ⊥
+fine_says : (n : ℕ) (hs : List Member) (ps : List Part) (slot : ℕ) (m : Message) → Shape true n hs ps
+    → Among (filter_map answer_of ps) (slot, a.Says m) → m.event ≡ codes "postgres_changes" → ⊥
 fine_says n hs ps slot m sh x e =
     let r = among_filter_map answer_of ps (slot, a.Says m) x in
     let fine : Fine true m = all_among FinePart ps r.0 (fine_parts n hs ps sh) r.1 slot m r.2 in
@@ -150,10 +154,12 @@ module _ (c : Catalog) (s : Settings) where
   abbrev Polled : List Input → Input → ℕ → Message → Type 0
   Polled before i slot m = (changes : List Change) × (i ≡ Poll changes) × IsDueBy c s before changes slot m
 
-  polled : (before : List Input) (i : Input) (slot : ℕ) (m : Message) → Among (answers c s before i) (slot, a.Says m) → Shape (fine_for i) (length (story c s before)) (members_in (story c s before)) (doings c s (now_of (story c s before)) (tables_left c (story c s before) i) i)
+  polled : (before : List Input) (i : Input) (slot : ℕ) (m : Message) → Among (answers c s before i) (slot, a.Says m)
+      → Shape (fine_for i) (length (story c s before)) (members_in (story c s before)) (doings c s (now_of (story c s before)) (tables_left c (story c s before) i) i)
       → m.event ≡ codes "postgres_changes" → Polled before i slot m
   unfolding answers_by
-  polled before (Poll changes) slot m x sh e = (changes, refl, changes_allowed c s before changes slot m (to_contains (answers c s before (Poll changes)) (slot, a.Says m) x))
+  polled before (Poll changes) slot m x sh e =
+      (changes, refl, changes_allowed c s before changes slot m (to_contains (answers c s before (Poll changes)) (slot, a.Says m) x))
   polled before (Opened n v claims) slot m x sh e = absurd (fine_says _ _ _ slot m sh x e)
   polled before (Frame n bytes) slot m x sh e = absurd (fine_says _ _ _ slot m sh x e)
   polled before (Gone n) slot m x sh e = absurd (fine_says _ _ _ slot m sh x e)
@@ -177,7 +183,8 @@ module _ (c : Catalog) (s : Settings) where
         | inr x ↦ record { later = []; input = i; before = before; taken = refl; answered = x }
       ]
 
-  pub given_allowed : (steps : List Step) (slot : ℕ) (bytes : List ℕ) → Contains ((run c s steps start).slots slot).given (item.Message bytes) → IsOfInput c s (run c s steps start).journal slot bytes
+  pub given_allowed : (steps : List Step) (slot : ℕ) (bytes : List ℕ) → Contains ((run c s steps start).slots slot).given (item.Message bytes)
+      → IsOfInput c s (run c s steps start).journal slot bytes
   given_allowed steps slot bytes x =
       let w = run c s steps start in
       let served = serves_all c s steps slot in

@@ -67,7 +67,8 @@ pub among_filter : {A : Type 0} (p : A → Bool) (xs : List A) (y : A) → Among
 among_filter p [] y h = absurd h
 among_filter p (x ∷ xs) y h = kept_or p x xs y (p x) refl (among_filter p xs y) h
 
-option_or : {A B : Type 0} (f : A → Option B) (x : A) (xs : List A) (y : B) (o : Option B) → f x ≡ o → (Among (filter_map f xs) y → (z : A) × Among xs z × (f z ≡ Some y))
+option_or : {A B : Type 0} (f : A → Option B) (x : A) (xs : List A) (y : B) (o : Option B) → f x ≡ o
+    → (Among (filter_map f xs) y → (z : A) × Among xs z × (f z ≡ Some y))
     → Among (cons_option o (filter_map f xs)) y → (z : A) × Among (x ∷ xs) z × (f z ≡ Some y)
 option_or f x xs y None e g h = let r = g h in (r.0, inr r.1, r.2)
 option_or f x xs y (Some v) e g (inl h) = (x, inl refl, e ∙ ap (λ z. Some z) h)
@@ -83,7 +84,8 @@ among_or p x y fs true e k (inr i) = inr i
 among_or p x y fs false e k (inl i) = absurd (let z : false ≡ true = sym e ∙ ap p i ∙ k in cc)
 among_or p x y fs false e k (inr i) = i
 
-either_kept : {A : Type 0} (p : A → Bool) (x y : A) (xs : List A) → (x ≡ y) ⊎ Among xs y → (Among xs y → Among (filter p xs) y) → (x ≡ y) ⊎ Among (filter p xs) y
+either_kept : {A : Type 0} (p : A → Bool) (x y : A) (xs : List A) → (x ≡ y) ⊎ Among xs y → (Among xs y → Among (filter p xs) y)
+    → (x ≡ y) ⊎ Among (filter p xs) y
 either_kept p x y xs (inl i) f = inl i
 either_kept p x y xs (inr i) f = inr (f i)
 

@@ -44,7 +44,8 @@ module _ (now : Now) (h : Member) (in_members : Among now.members h) (rises : Ri
 
   module _ (c : Catalog) (s : Settings) where
     outside : (tables : List (List Row)) (i : Input) → IsOutside i → Held_by (doings c s now tables i)
-    outside tables i k = holds_by now h in_members rises apart enabled chans refs small below earlier short topics (doings c s now tables i) (outside_turn now h in_members rises apart enabled chans refs small c s tables i k)
+    outside tables i k =
+        holds_by now h in_members rises apart enabled chans refs small below earlier short topics (doings c s now tables i) (outside_turn now h in_members rises apart enabled chans refs small c s tables i k)
 
     pub input_holds : (tables : List (List Row)) (i : Input) → IsNoStop i → Held_by (doings c s now tables i)
     unfolding doings
@@ -52,7 +53,8 @@ module _ (now : Now) (h : Member) (in_members : Among now.members h) (rises : Ri
     input_holds tables (Gone slot) k = outside tables (Gone slot) tt
     input_holds tables (Poll changes) k = outside tables (Poll changes) tt
     input_holds tables (Tick moment) k = outside tables (Tick moment) tt
-    input_holds tables (Frame slot bytes) k = holds_frame now h in_members rises apart enabled chans refs small below earlier short topics c s slot bytes (opening_in now slot)
+    input_holds tables (Frame slot bytes) k =
+        holds_frame now h in_members rises apart enabled chans refs small below earlier short topics c s slot bytes (opening_in now slot)
     input_holds tables Stop k = absurd k
 
 module _ (c : Catalog) (s : Settings) where
@@ -61,12 +63,14 @@ module _ (c : Catalog) (s : Settings) where
   story_length [] = refl
   story_length (i ∷ before) = ap suc (story_length before)
 
-  pub tracks_next : (journal : List Input) (i : Input) → present_at (story c s (i ∷ journal)) ≡ tracks_after (present_at (story c s journal)) (done_by c s journal i)
+  pub tracks_next : (journal : List Input) (i : Input)
+      → present_at (story c s (i ∷ journal)) ≡ tracks_after (present_at (story c s journal)) (done_by c s journal i)
   unfolding now_of after
   tracks_next journal i = ap (λ (n : Now). n.tracks) (story_grows c s journal i)
 
   -- what a member that stays holds after the input
-  pub held_after : (journal : List Input) (i : Input) (h : Member) → length journal < 2 ^ 64 → IsNoStop i → Among (members_in (story c s journal)) h → h.channel.presence ≡ true → (held : List Held)
+  pub held_after : (journal : List Input) (i : Input) (h : Member) → length journal < 2 ^ 64 → IsNoStop i → Among (members_in (story c s journal)) h
+      → h.channel.presence ≡ true → (held : List Held)
       → has h.channel.number (departed_in (done_by c s journal i)) ≡ false
       → Moves held (map shown_meta (filter (λ (t : Track). bytes_eq t.topic h.channel.topic) (present_at (story c s journal))))
       → Moves (client_view held (heard c s journal i h.channel)) (map shown_meta (filter (λ (t : Track). bytes_eq t.topic h.channel.topic) (tracks_after (present_at (story c s journal)) (done_by c s journal i))))
@@ -77,11 +81,13 @@ module _ (c : Catalog) (s : Settings) where
       let now = now_of st in
       let g = is_present st sh in
       let l = story_length journal in
-      let small = all_weaker (λ (t : Track). t.reference < length st) (λ (t : Track). t.reference < 2 ^ 64) (present_at st) (λ t lt. omega arith) g.small in
+      let small =
+      all_weaker (λ (t : Track). t.reference < length st) (λ (t : Track). t.reference < 2 ^ 64) (present_at st) (λ t lt. omega arith) g.small in
       let few : length st < 2 ^ 64 = omega arith in
       input_holds now h here (members_rising st sh) (members_apart st sh) enabled g.channels g.references small (held_below st sh) g.small few g.topics c s (tables_left c st i) i k held stays m
 
-  pub clients_follow : (journal : List Input) (i : Input) (h : Member) → length journal < 2 ^ 64 → IsNoStop i → Contains (members_of_journal c s journal) h → h.channel.presence ≡ true
+  pub clients_follow : (journal : List Input) (i : Input) (h : Member) → length journal < 2 ^ 64 → IsNoStop i
+      → Contains (members_of_journal c s journal) h → h.channel.presence ≡ true
       → has h.channel.number (departed_in (done_by c s journal i)) ≡ false
       → IsPermutation (client_view [] (presence_state h.channel (present_on c s journal h.channel.topic) ∷ heard c s journal i h.channel)) (map shown_meta (present_on c s (i ∷ journal) h.channel.topic))
   unfolding answers_by now_of

@@ -55,7 +55,8 @@ module _ (c : Catalog) (s : Settings) (role max : ℕ) (ch : Change) where
 
   shown_is : (n : ℕ × Column) → Among (shown_columns c role max ch) n → IsShown n
   shown_is n h =
-      let r = among_filter_map (λ (m : ℕ × Column). some_if (may_select c role ch.table m.0) m) (enumerate_from 0 (table_at c ch.table).columns) n h in
+      let r =
+      among_filter_map (λ (m : ℕ × Column). some_if (may_select c role ch.table m.0) m) (enumerate_from 0 (table_at c ch.table).columns) n h in
       let t = some_if_true (may_select c role ch.table r.0.0) r.0 n r.2 in
       let at = numbered_at 0 (table_at c ch.table).columns r.0 r.1 in
       let i : at.0 ≡ r.0.0 = let e = at.1 in omega arith in
@@ -64,21 +65,25 @@ module _ (c : Catalog) (s : Settings) (role max : ℕ) (ch : Change) where
 
   old_is : (n : ℕ × Column) → Among (old_columns c role max ch) n → IsShown n
   old_is n h =
-      let r = among_filter_map (λ (m : ℕ × Column). some_if (writes ch.verb || not (is_secured c ch.table) || is_key_column c role max ch m.0) m) (shown_columns c role max ch) n h in
+      let r =
+      among_filter_map (λ (m : ℕ × Column). some_if (writes ch.verb || not (is_secured c ch.table) || is_key_column c role max ch m.0) m) (shown_columns c role max ch) n h in
       let t = some_if_true (writes ch.verb || not (is_secured c ch.table) || is_key_column c role max ch r.0.0) r.0 n r.2 in
       subst IsShown t.1 (shown_is r.0 r.1)
 
-  field_name : (n : ℕ × Column) (o : Option Json) (m : Member) → (o >>= λ tree. some_if (is_kept c role max ch tree) (field n.1.name tree)) ≡ Some m → n.1.name ≡ m.name
+  field_name : (n : ℕ × Column) (o : Option Json) (m : Member) → (o >>= λ tree. some_if (is_kept c role max ch tree) (field n.1.name tree)) ≡ Some m
+      → n.1.name ≡ m.name
   field_name n None m e = absurd (cc)
   field_name n (Some tree) m e = ap (λ (x : Member). x.name) (some_if_true (is_kept c role max ch tree) (field n.1.name tree) m e).1
 
-  shown_field : (columns : List (ℕ × Column)) (trees : List (Option Json)) → ((n : ℕ × Column) → Among columns n → IsShown n) → (m : Member) → Among (filter_map (field_of c role max ch trees) columns) m → IsShownColumn c s role ch.table m.name
+  shown_field : (columns : List (ℕ × Column)) (trees : List (Option Json)) → ((n : ℕ × Column) → Among columns n → IsShown n) → (m : Member)
+      → Among (filter_map (field_of c role max ch trees) columns) m → IsShownColumn c s role ch.table m.name
   shown_field columns trees f m h =
       let r = among_filter_map (field_of c role max ch trees) columns m h in
       let k = f r.0 r.1 in
       record { number = r.0.0; column = r.0.1; there = k.0; named = field_name r.0 (unwrap_or (slice_get trees r.0.0) None) m r.2; may = k.1 }
 
-  record_shows : (columns : List (ℕ × Column)) (trees : List (Option Json)) → ((n : ℕ × Column) → Among columns n → IsShown n) → ShowsOnly c s role ch.table (record_of c role max ch columns trees)
+  record_shows : (columns : List (ℕ × Column)) (trees : List (Option Json)) → ((n : ℕ × Column) → Among columns n → IsShown n)
+      → ShowsOnly c s role ch.table (record_of c role max ch columns trees)
   record_shows columns trees f =
       let fields = filter_map (field_of c role max ch trees) columns in
       let P : List Member → Type 0 = All (λ (m : Member). IsShownColumn c s role ch.table m.name) in
@@ -87,20 +92,25 @@ module _ (c : Catalog) (s : Settings) (role max : ℕ) (ch : Change) where
   -- a refusal has no record
   refused_none : (text part : List ℕ) → IsRecordName c s part → member_of (refused c role max ch text) part ≡ None
   refused_none text part (inl e) =
-      object_at (head c role max ch ++ field (codes "errors") (error_list text) ∷ []) part ∙ ap (λ (name : List ℕ). last_named name (head c role max ch ++ field (codes "errors") (error_list text) ∷ [])) e
+      object_at (head c role max ch ++ field (codes "errors") (error_list text) ∷ []) part
+      ∙ ap (λ (name : List ℕ). last_named name (head c role max ch ++ field (codes "errors") (error_list text) ∷ [])) e
   refused_none text part (inr e) =
-      object_at (head c role max ch ++ field (codes "errors") (error_list text) ∷ []) part ∙ ap (λ (name : List ℕ). last_named name (head c role max ch ++ field (codes "errors") (error_list text) ∷ [])) e
+      object_at (head c role max ch ++ field (codes "errors") (error_list text) ∷ []) part
+      ∙ ap (λ (name : List ℕ). last_named name (head c role max ch ++ field (codes "errors") (error_list text) ∷ [])) e
 
   abbrev Shows : Option Json → Type 0
   Shows None = ⊤
   Shows (Some tree) = ShowsOnly c s role ch.table tree
 
   abbrev around : Json → Json → Json → List Member → List Member
-  around moment columns errors ms = head c role max ch ++ field (codes "commit_timestamp") moment ∷ field (codes "columns") columns ∷ ms ++ field (codes "errors") errors ∷ []
+  around moment columns errors ms =
+      head c role max ch ++ field (codes "commit_timestamp") moment ∷ field (codes "columns") columns ∷ ms ++ field (codes "errors") errors ∷ []
 
-  shown_records : (v : Verb) (moment columns errors : Json) → Shows (last_named (codes "record") (around moment columns errors (records c role max ch v))) × Shows (last_named (codes "old_record") (around moment columns errors (records c role max ch v)))
+  shown_records : (v : Verb) (moment columns errors : Json)
+      → Shows (last_named (codes "record") (around moment columns errors (records c role max ch v))) × Shows (last_named (codes "old_record") (around moment columns errors (records c role max ch v)))
   shown_records Insert moment columns errors = (record_shows (shown_columns c role max ch) ch.new_trees shown_is, tt)
-  shown_records Update moment columns errors = (record_shows (shown_columns c role max ch) ch.new_trees shown_is, record_shows (old_columns c role max ch) ch.old_trees old_is)
+  shown_records Update moment columns errors =
+      (record_shows (shown_columns c role max ch) ch.new_trees shown_is, record_shows (old_columns c role max ch) ch.old_trees old_is)
   shown_records Delete moment columns errors = (tt, record_shows (old_columns c role max ch) ch.old_trees old_is)
   shown_records Truncate moment columns errors = (tt, tt)
 
@@ -126,6 +136,7 @@ module _ (c : Catalog) (s : Settings) (role max : ℕ) (ch : Change) where
   shape_case false true e f part tree name h = absurd (no_some _ tree (refused_none (codes "Error 401: Unauthorized") part name) h)
   shape_case false false e f part tree name h = (e, f, subst Shows h (whole_shows part name))
 
-  pub shape_shows : (part : List ℕ) (tree : Json) → IsRecordName c s part → member_of (shape_of c role max ch) part ≡ Some tree → (lacks_key ch ≡ false) × (hides_key c role ch ≡ false) × ShowsOnly c s role ch.table tree
+  pub shape_shows : (part : List ℕ) (tree : Json) → IsRecordName c s part → member_of (shape_of c role max ch) part ≡ Some tree
+      → (lacks_key ch ≡ false) × (hides_key c role ch ≡ false) × ShowsOnly c s role ch.table tree
   unfolding shape_of
   shape_shows part tree name h = shape_case (lacks_key ch) (hides_key c role ch) refl refl part tree name h

@@ -63,14 +63,17 @@ module _ (c : Catalog) (s : Settings) (st : Story) (h : Shaped st) (tables : Lis
   Gets ch slot role sub = Among (subscriptions (members_in st)) sub × (sub.slot ≡ slot) × (is_of_table c ch.table sub ≡ true) × (sub.role ≡ role) × (is_sent (verdict_of c (rows_of_table tables) sub ch) ≡ true)
 
   -- a subscription of the channel is the member's own
-  gets_own : (ch : Change) (m : Member) (sub : Subscription) → Among (members_in st) m → Among (subscriptions (members_in st)) sub → gets c s tables ch m.channel.number sub ≡ true → Gets ch m.channel.slot m.role sub
+  gets_own : (ch : Change) (m : Member) (sub : Subscription) → Among (members_in st) m → Among (subscriptions (members_in st)) sub
+      → gets c s tables ch m.channel.number sub ≡ true → Gets ch m.channel.slot m.role sub
   unfolding subscriptions
   gets_own ch m sub here known e =
       let parts = and_parts (sub.channel == m.channel.number) (is_of_table c ch.table sub) (is_sent (verdict_of c (rows_of_table tables) sub ch)) e in
       let found = among_flat subscriptions_of (members_in st) sub known in
       let g = found.0 in
-      let made = among_map (subscription_of g.channel.number g.channel.slot g.role g.claims) (enumerate_from g.channel.first_id g.channel.bindings) sub found.2 in
-      let number : g.channel.number ≡ m.channel.number = ap (λ (x : Subscription). x.channel) made.2 ∙ same_number sub.channel m.channel.number parts.0 in
+      let made =
+      among_map (subscription_of g.channel.number g.channel.slot g.role g.claims) (enumerate_from g.channel.first_id g.channel.bindings) sub found.2 in
+      let number : g.channel.number ≡ m.channel.number =
+      ap (λ (x : Subscription). x.channel) made.2 ∙ same_number sub.channel m.channel.number parts.0 in
       let same : g ≡ m = same_member st g m h found.1 here number in
       (known, ap (λ (x : Subscription). x.slot) (sym made.2) ∙ ap (λ (x : Member). x.channel.slot) same, parts.1, ap (λ (x : Subscription). x.role) (sym made.2) ∙ ap (λ (x : Member). x.role) same, parts.2)
 
@@ -85,7 +88,8 @@ module _ (c : Catalog) (s : Settings) (st : Story) (h : Shaped st) (tables : Lis
     each : AllOf (Gets change slot member.role) subs
     is : m ≡ change_message (view_of member) (map (λ (x : Subscription). x.id) subs) (shape_of c member.role s.max_record change)
 
-  told_by : (changes : List Change) (slot : ℕ) (m : Message) (ch : Change) (to : ChannelView) (g : Member) (fs : List Subscription) → Among changes ch → Among (members_in st) g → view_of g ≡ to
+  told_by : (changes : List Change) (slot : ℕ) (m : Message) (ch : Change) (to : ChannelView) (g : Member) (fs : List Subscription) → Among changes ch
+      → Among (members_in st) g → view_of g ≡ to
       → AllOf (Gets ch to.slot g.role) fs → (p : Part) → Among (change_parts c s to ch fs) p → answer_of p ≡ Some (slot, Says m) → Told changes slot m
   told_by changes slot m ch to g [] a k v all p x e = absurd x
   told_by changes slot m ch to g (sub ∷ more) a k v all p (inr x) e = absurd x
@@ -126,12 +130,15 @@ module _ (c : Catalog) (s : Settings) (st : Story) (h : Shaped st) (tables : Lis
       told_by changes slot m ch r.0 g fs a k.1 k.2 all p r.2 e
 
   change_tells : (changes : List Change) (slot : ℕ) (m : Message) (ch : Change) → Among changes ch → (p : Part) → answer_of p ≡ Some (slot, Says m)
-      → (t : Bool) → Among (elim t [ true ↦ [] | false ↦ flat_map (change_parts_to c s (subscriptions (members_in st)) tables ch) (map view_of (members_in st)) ]) p → Told changes slot m
+      → (t : Bool)
+      → Among (elim t [ true ↦ [] | false ↦ flat_map (change_parts_to c s (subscriptions (members_in st)) tables ch) (map view_of (members_in st)) ]) p
+      → Told changes slot m
   change_tells changes slot m ch a p e true x = absurd x
   change_tells changes slot m ch a p e false x = views_tell changes slot m ch a p e x
 
   poll_tells : (changes : List Change) (slot : ℕ) (m : Message)
-      → Among (filter_map answer_of (flat_map (change_parts_to_all c s (subscriptions (members_in st)) tables (map view_of (members_in st))) changes)) (slot, Says m) → Told changes slot m
+      → Among (filter_map answer_of (flat_map (change_parts_to_all c s (subscriptions (members_in st)) tables (map view_of (members_in st))) changes)) (slot, Says m)
+      → Told changes slot m
   poll_tells changes slot m x =
       let subs = subscriptions (members_in st) in
       let views = map view_of (members_in st) in
@@ -144,7 +151,8 @@ module _ (c : Catalog) (s : Settings) where
   delivers : (role : ℕ) (ch : Change) → lacks_key ch ≡ false → hides_key c role ch ≡ false → sent_verdict c role ch ≡ Deliver
   delivers role ch e f = ap (λ b. cond b Error400 (cond (hides_key c role ch) Error401 Deliver)) e ∙ ap (λ b. cond b Error401 Deliver) f
 
-  verdict_is : (tables : List (List Row)) (st : Story) (h : Shaped st) (ch : Change) (slot role : ℕ) (sub : Subscription) → Gets c s st h tables ch slot role sub → verdict_of c (rows_of_table tables) sub ch ≡ sent_verdict c role ch
+  verdict_is : (tables : List (List Row)) (st : Story) (h : Shaped st) (ch : Change) (slot role : ℕ) (sub : Subscription)
+      → Gets c s st h tables ch slot role sub → verdict_of c (rows_of_table tables) sub ch ≡ sent_verdict c role ch
   verdict_is tables st h ch slot role sub g = verdict_when_sent c (rows_of_table tables) sub ch g.4 ∙ ap (λ n. sent_verdict c n ch) g.3
 
   abbrev left : List Input → List Change → List (List Row)
@@ -156,7 +164,8 @@ module _ (c : Catalog) (s : Settings) where
   told_of before changes slot m x =
       poll_tells c s (story c s before) (story_shaped c s before) (left before changes) changes slot m (from_contains (answers c s before (Poll changes)) (slot, Says m) x)
 
-  due_of : (before : List Input) (changes : List Change) (slot : ℕ) (m : Message) → Told c s (story c s before) (story_shaped c s before) (left before changes) changes slot m → IsDueBy c s before changes slot m
+  due_of : (before : List Input) (changes : List Change) (slot : ℕ) (m : Message)
+      → Told c s (story c s before) (story_shaped c s before) (left before changes) changes slot m → IsDueBy c s before changes slot m
   unfolding now_of
   due_of before changes slot m t =
       let st = story c s before in
@@ -183,7 +192,8 @@ module _ (c : Catalog) (s : Settings) where
             );
       }
 
-  pub changes_allowed : (before : List Input) (changes : List Change) (slot : ℕ) (m : Message) → Contains (answers c s before (Poll changes)) (slot, Says m) → IsDueBy c s before changes slot m
+  pub changes_allowed : (before : List Input) (changes : List Change) (slot : ℕ) (m : Message)
+      → Contains (answers c s before (Poll changes)) (slot, Says m) → IsDueBy c s before changes slot m
   changes_allowed before changes slot m x = due_of before changes slot m (told_of before changes slot m x)
 
   sent_is : (a b : Bool) → is_sent (cond a Error400 (cond b Error401 Deliver)) ≡ true
@@ -191,7 +201,8 @@ module _ (c : Catalog) (s : Settings) where
   sent_is false true = refl
   sent_is false false = refl
 
-  pub one_verdict : (before : List Input) (changes : List Change) (slot : ℕ) (m : Message) → Contains (answers c s before (Poll changes)) (slot, Says m) → HasOneVerdict c s before changes slot m
+  pub one_verdict : (before : List Input) (changes : List Change) (slot : ℕ) (m : Message)
+      → Contains (answers c s before (Poll changes)) (slot, Says m) → HasOneVerdict c s before changes slot m
   unfolding due_of told_of
   one_verdict before changes slot m x =
       let t = told_of before changes slot m x in

@@ -22,7 +22,8 @@ use Rattle.rt_entry.specs.Answers.{Answers, Mark, answer, batch, stop, answer_of
 use Rattle.rt_laws.specs.Fan.{is_of_lane, fan, given_by}
 use Rattle.rt_laws.proofs.Marks.{lane_more}
 
-one_twice : {A : Type 0} (p : A → Bool) (x : A) (ys : List A) (b : Bool) → p x ≡ b → filter p ys ≡ ys → filter p (cond b (x ∷ ys) ys) ≡ cond b (x ∷ ys) ys
+one_twice : {A : Type 0} (p : A → Bool) (x : A) (ys : List A) (b : Bool) → p x ≡ b → filter p ys ≡ ys
+    → filter p (cond b (x ∷ ys) ys) ≡ cond b (x ∷ ys) ys
 one_twice p x ys true e h = ap (λ t. cond t (x ∷ filter p ys) (filter p ys)) e ∙ ap (λ zs. x ∷ zs) h
 one_twice p x ys false e h = h
 
@@ -42,13 +43,15 @@ module _ (c : Catalog) (s : Settings) where
 
   all_give : (marks : List Mark) → flat_map (given_by c s) (map (entry_of c s) marks) ≡ flat_map (mark_answers c s) marks
   all_give [] = refl
-  all_give (m ∷ ms) = ap (λ xs. xs ++ flat_map (given_by c s) (map (entry_of c s) ms)) (entries_give m) ∙ ap (λ xs. mark_answers c s m ++ xs) (all_give ms)
+  all_give (m ∷ ms) =
+      ap (λ xs. xs ++ flat_map (given_by c s) (map (entry_of c s) ms)) (entries_give m) ∙ ap (λ xs. mark_answers c s m ++ xs) (all_give ms)
 
   marks_give : (gs : Answers) → flat_map (mark_answers c s) (map mark_of gs) ≡ gs
   marks_give [] = refl
   marks_give (g ∷ gs) = ap (λ xs. g ∷ xs) (marks_give gs)
 
-  lane_gives : (lane : ℕ) (gs : Answers) → filter (is_in_lane s.workers lane) (flat_map (given_by c s) (map (entry_of c s) (of_lane c s lane gs))) ≡ filter (is_in_lane s.workers lane) gs
+  lane_gives : (lane : ℕ) (gs : Answers)
+      → filter (is_in_lane s.workers lane) (flat_map (given_by c s) (map (entry_of c s) (of_lane c s lane gs))) ≡ filter (is_in_lane s.workers lane) gs
   lane_gives lane gs =
       ap (filter (is_in_lane s.workers lane)) (all_give (of_lane c s lane gs) ∙ marks_give (filter (is_in_lane s.workers lane) gs))
       ∙ kept_twice (is_in_lane s.workers lane) gs
@@ -76,14 +79,16 @@ module _ (c : Catalog) (s : Settings) where
   unfolding marks_of
   entries_answer before i lane = input_answers lane (now_of (story c s before)) (tables_left c (story c s before) i) i
 
-  pub marks_stay : (later before : List Input) (lane : ℕ) → (rest : List Mark) × (lane_marks c s (later ++ before) lane ≡ lane_marks c s before lane ++ rest)
+  pub marks_stay : (later before : List Input) (lane : ℕ)
+      → (rest : List Mark) × (lane_marks c s (later ++ before) lane ≡ lane_marks c s before lane ++ rest)
   marks_stay [] before lane = ([], sym (append-nil (lane_marks c s before lane)))
   marks_stay (i ∷ later) before lane =
       let found = marks_stay later before lane in
       let more = marks_of c s lane (later ++ before) i in
       (found.0 ++ more, lane_more c s (later ++ before) i lane ∙ ap (λ ms. ms ++ more) found.1 ∙ append_assoc (lane_marks c s before lane) found.0 more)
 
-  pub entries_stay : (later before : List Input) (i : Input) (lane : ℕ) → (rest : List Entry) × (map (entry_of c s) (lane_marks c s (later ++ i ∷ before) lane)
+  pub entries_stay : (later before : List Input) (i : Input) (lane : ℕ)
+      → (rest : List Entry) × (map (entry_of c s) (lane_marks c s (later ++ i ∷ before) lane)
       ≡ map (entry_of c s) (lane_marks c s before lane) ++ (map (entry_of c s) (marks_of c s lane before i) ++ rest))
   entries_stay later before i lane =
       let found = marks_stay later (i ∷ before) lane in

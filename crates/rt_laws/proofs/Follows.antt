@@ -73,7 +73,8 @@ module _ (now : Now) (h : Member) (in_members : Among now.members h) (rises : Ri
     mute_change to ch [] = tt
     mute_change to ch (sub ∷ more) = ((refl, refl), tt)
 
-    mute_changes : (subs : List Subscription) (tables : List (List Row)) (views : List ChannelView) (ch : Change) → AllOf IsMute (change_parts_to_all c s subs tables views ch)
+    mute_changes : (subs : List Subscription) (tables : List (List Row)) (views : List ChannelView) (ch : Change)
+        → AllOf IsMute (change_parts_to_all c s subs tables views ch)
     mute_changes subs tables views ch =
         elim (is_truncate ch.verb) as (λ t. AllOf IsMute (elim t [ true ↦ [] | false ↦ flat_map (change_parts_to c s subs tables ch) views ])) [
           | true ↦ tt
@@ -100,15 +101,18 @@ module _ (now : Now) (h : Member) (in_members : Among now.members h) (rises : Ri
   abbrev pub after_with : List ℕ → List (ℕ × Option Track) → List Track
   after_with ds xs = filter (λ (t : Track). is_last t.channel xs && not (has t.channel ds)) now.tracks ++ standing_tracks xs
 
-  pub turn_holds : (ps : List Part) (held : List Held) → Turn ps [] → has h.channel.number (departed_in ps) ≡ false → Moves held (map shown_meta (filter on now.tracks))
+  pub turn_holds : (ps : List Part) (held : List Held) → Turn ps [] → has h.channel.number (departed_in ps) ≡ false
+      → Moves held (map shown_meta (filter on now.tracks))
       → Moves (client_view held (hears h.channel ps)) (map shown_meta (filter on (tracks_after now.tracks ps)))
   turn_holds ps held t stays m =
       let n = h.channel.number in
       let ds = departed_in ps in
       let P : List Held → Type 0 = Moves held in
       let Q : List Held → Type 0 = Moves (client_view held (hears h.channel ps)) in
-      let none_gone : filter (λ (u : Track). not (has u.channel [])) now.tracks ≡ now.tracks = filter_all (λ (u : Track). not (has u.channel [])) now.tracks (all_every (λ (u : Track). not (has u.channel []) ≡ true) now.tracks (λ u. refl)) in
-      let first : shown_still now h in_members rises apart enabled chans refs small [] ≡ map shown_meta (filter on now.tracks) = ap (λ (ts : List Track). map shown_meta (filter on ts)) none_gone in
+      let none_gone : filter (λ (u : Track). not (has u.channel [])) now.tracks ≡ now.tracks =
+      filter_all (λ (u : Track). not (has u.channel [])) now.tracks (all_every (λ (u : Track). not (has u.channel []) ≡ true) now.tracks (λ u. refl)) in
+      let first : shown_still now h in_members rises apart enabled chans refs small [] ≡ map shown_meta (filter on now.tracks) =
+      ap (λ (ts : List Track). map shown_meta (filter on ts)) none_gone in
       let last : map shown_meta (filter on (filter (λ (u : Track). not (has u.channel (ds ++ []))) now.tracks)) ≡ map shown_meta (filter on (tracks_after now.tracks ps)) =
       ap (λ (ts : List Track). map shown_meta (filter on ts))
       (ap (λ (xs : List ℕ). filter (λ (u : Track). not (has u.channel xs)) now.tracks) (append-nil ds)

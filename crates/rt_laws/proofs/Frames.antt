@@ -93,10 +93,12 @@ module _ (now : Now) (h : Member) (in_members : Among now.members h) (rises : Ri
   by_test false x y f g = g
 
   -- a message to another place isn't heard
-  unheard_view : (held : List Held) (slot : ℕ) (m : Message) (ps : List Part) → ((slot == h.channel.slot) && bytes_eq m.topic h.channel.topic) ≡ false → client_view held (hears h.channel (Tells slot m ∷ ps)) ≡ client_view held (hears h.channel ps)
+  unheard_view : (held : List Held) (slot : ℕ) (m : Message) (ps : List Part) → ((slot == h.channel.slot) && bytes_eq m.topic h.channel.topic) ≡ false
+      → client_view held (hears h.channel (Tells slot m ∷ ps)) ≡ client_view held (hears h.channel ps)
   unheard_view held slot m ps e = ap (λ (b : Bool). client_view held (cons_option (elim b as (λ x. Option Message) [ true ↦ Some m | false ↦ None ]) (hears h.channel ps))) e
 
-  unheard_turn : (b : Bool) (slot : ℕ) (m : Message) (gone : List ℕ) → ((slot == h.channel.slot) && bytes_eq m.topic h.channel.topic) ≡ false → Turn now h in_members rises apart enabled chans refs small (tell_if b slot m) gone
+  unheard_turn : (b : Bool) (slot : ℕ) (m : Message) (gone : List ℕ) → ((slot == h.channel.slot) && bytes_eq m.topic h.channel.topic) ≡ false
+      → Turn now h in_members rises apart enabled chans refs small (tell_if b slot m) gone
   unheard_turn true slot m gone e =
       record { tracks = refl; holds = λ held stays mv. let P : List Held → Type 0 = λ x. Moves x (shown_still now h in_members rises apart enabled chans refs small gone) in subst P (sym (unheard_view held slot m [] e)) mv }
   unheard_turn false slot m gone e = record { tracks = refl; holds = λ held stays mv. mv }
@@ -110,19 +112,22 @@ module _ (now : Now) (h : Member) (in_members : Among now.members h) (rises : Ri
       let former = option_to_list (channel_on now slot topic) in
       turns_each now h in_members rises apart enabled chans refs small (close now) (λ g. ⊤) (λ x g t. turns_close now h in_members rises apart enabled chans refs small x g) [] former (all_every (λ g. ⊤) former (λ g. tt))
 
-  elsewhere : (slot : ℕ) (topic : List ℕ) (rest : List Part) → has h.channel.number (departed_in (closing slot topic ++ rest)) ≡ false → ((slot == h.channel.slot) && bytes_eq topic h.channel.topic) ≡ false
+  elsewhere : (slot : ℕ) (topic : List ℕ) (rest : List Part) → has h.channel.number (departed_in (closing slot topic ++ rest)) ≡ false
+      → ((slot == h.channel.slot) && bytes_eq topic h.channel.topic) ≡ false
   elsewhere slot topic rest stays = place (slot == h.channel.slot) (bytes_eq topic h.channel.topic) refl refl where
     place : (a b : Bool) → (slot == h.channel.slot) ≡ a → bytes_eq topic h.channel.topic ≡ b → (a && b) ≡ false
     place false b e f = refl
     place true false e f = refl
     place true true e f =
         let n = h.channel.number in
-        let gone : has n (departed_in (closing slot topic)) ≡ true = room now below apart slot topic h in_members (sym (same_number slot h.channel.slot e)) (sym ((bytes_eq-Decides topic h.channel.topic).0 f)) in
+        let gone : has n (departed_in (closing slot topic)) ≡ true =
+        room now below apart slot topic h in_members (sym (same_number slot h.channel.slot e)) (sym ((bytes_eq-Decides topic h.channel.topic).0 f)) in
         let kept : has n (departed_in (closing slot topic)) ≡ false =
         or_first (has n (departed_in (closing slot topic))) (has n (departed_in rest)) (sym (ap (has n) (filter_map-append departed_by (closing slot topic) rest) ∙ any_append (λ j. j == n) (departed_in (closing slot topic)) (departed_in rest)) ∙ stays) in
         absurd (let k : true ≡ false = sym gone ∙ kept in cc)
 
-  holds_result : (slot : ℕ) (gone : List ℕ) (m : Message) (r : Checked Channel) → IsMade now.number slot m.topic r → Holds (closing slot m.topic ++ join_result_parts now slot gone m r)
+  holds_result : (slot : ℕ) (gone : List ℕ) (m : Message) (r : Checked Channel) → IsMade now.number slot m.topic r
+      → Holds (closing slot m.topic ++ join_result_parts now slot gone m r)
   holds_result slot gone m (Ok ch) made held stays mv =
       let ok = reply_ok ch.join_ref m (joined_response ch) in
       let subscribed = tell_if (has_bindings ch) ch.slot (subscribed_message ch) in
@@ -145,7 +150,8 @@ module _ (now : Now) (h : Member) (in_members : Among now.members h) (rises : Ri
   -- a track
 
   track_view : (t : Track) (olds : List Track) (held : List Held) (b : Bool) → bytes_eq h.channel.topic t.topic ≡ b → t.reference ≡ now.number
-      → AllOf (λ (u : Track). leaves_in olds u ≡ (t.channel == u.channel)) now.tracks → leaves_in olds t ≡ false → AllOf (λ (u : Track). (u.reference < 2 ^ 64)) olds
+      → AllOf (λ (u : Track). leaves_in olds u ≡ (t.channel == u.channel)) now.tracks → leaves_in olds t ≡ false
+      → AllOf (λ (u : Track). (u.reference < 2 ^ 64)) olds
       → ((u : Track) → Among now.tracks u → (t.channel == u.channel) ≡ true → on u ≡ on t)
       → Moves held (map shown_meta (filter on now.tracks))
       → Moves (client_view held (elim b as (λ x. List Message) [ true ↦ presence_diff h.channel (t ∷ []) olds ∷ [] | false ↦ [] ])) (map shown_meta (filter on (after_with now h in_members rises apart enabled chans refs small [] ((t.channel, Some t) ∷ []))))
@@ -156,16 +162,19 @@ module _ (now : Now) (h : Member) (in_members : Among now.members h) (rises : Ri
       let done = after_message held (presence_diff h.channel (t ∷ []) olds) in
       let here : on t ≡ true = on_turn now h in_members rises apart enabled chans refs small t true k in
       let few : t.reference < 2 ^ 64 = omega arith in
-      let all = all_append (λ (u : Track). u.reference < 2 ^ 64) x (t ∷ []) (all_filter (λ (u : Track). u.reference < 2 ^ 64) on now.tracks small) (few, tt) in
+      let all =
+      all_append (λ (u : Track). u.reference < 2 ^ 64) x (t ∷ []) (all_filter (λ (u : Track). u.reference < 2 ^ 64) on now.tracks small) (few, tt) in
       let old : filter q x ≡ filter on (filter r now.tracks) =
       sym (filter_and q on now.tracks)
       ∙ filter_alike (λ u. on u && q u) (λ u. r u && on u) now.tracks
       (all_weaker (λ (u : Track). leaves_in olds u ≡ (t.channel == u.channel)) (λ (u : Track). (on u && q u) ≡ (r u && on u)) now.tracks
       (λ u e. ap (λ (z : Bool). on u && not z) e ∙ with_or (t.channel == u.channel) (on u)) same)
       ∙ filter_and on r now.tracks in
-      let new : filter q (t ∷ []) ≡ filter on (t ∷ []) = ap (λ (z : Bool). cond (not z) (t ∷ []) []) fresh ∙ sym (ap (λ (z : Bool). cond z (t ∷ []) []) here) in
+      let new : filter q (t ∷ []) ≡ filter on (t ∷ []) =
+      ap (λ (z : Bool). cond (not z) (t ∷ []) []) fresh ∙ sym (ap (λ (z : Bool). cond z (t ∷ []) []) here) in
       let is : filter q (x ++ t ∷ []) ≡ filter on (filter r now.tracks ++ t ∷ []) =
-      filter-append q x (t ∷ []) ∙ ap (λ ys. ys ++ filter q (t ∷ [])) old ∙ ap (λ ys. filter on (filter r now.tracks) ++ ys) new ∙ sym (filter-append on (filter r now.tracks) (t ∷ [])) in
+      filter-append q x (t ∷ []) ∙ ap (λ ys. ys ++ filter q (t ∷ [])) old ∙ ap (λ ys. filter on (filter r now.tracks) ++ ys) new
+      ∙ sym (filter-append on (filter r now.tracks) (t ∷ [])) in
       then_to done (map shown_meta (filter q (x ++ t ∷ []))) (map shown_meta (filter on (filter r now.tracks ++ t ∷ [])))
       (reads_difference h.channel held x (t ∷ []) olds (fit_of olds fits) all m) (moves_same (map shown_meta (filter q (x ++ t ∷ []))) (map shown_meta (filter on (filter r now.tracks ++ t ∷ []))) (ap (map shown_meta) is))
     where
@@ -185,7 +194,8 @@ module _ (now : Now) (h : Member) (in_members : Among now.members h) (rises : Ri
       filter_alike on (λ u. r u && on u) now.tracks
       (all_weaker (Among now.tracks) (λ (u : Track). on u ≡ (r u && on u)) now.tracks (λ u i. off_test (t.channel == u.channel) (on u) (λ e. topic u i e ∙ off)) (all_themselves now.tracks))
       ∙ filter_and on r now.tracks ∙ sym (append-nil (filter on (filter r now.tracks)))
-      ∙ ap (λ ys. filter on (filter r now.tracks) ++ ys) (sym (ap (λ (z : Bool). cond z (t ∷ []) []) off)) ∙ sym (filter-append on (filter r now.tracks) (t ∷ [])) in
+      ∙ ap (λ ys. filter on (filter r now.tracks) ++ ys) (sym (ap (λ (z : Bool). cond z (t ∷ []) []) off))
+      ∙ sym (filter-append on (filter r now.tracks) (t ∷ [])) in
       let P : List Held → Type 0 = Moves held in
       subst P (ap (map shown_meta) is) m
 
@@ -196,7 +206,8 @@ module _ (now : Now) (h : Member) (in_members : Among now.members h) (rises : Ri
   mute_reply g m = ((refl, refl), tt)
 
   -- what is heard behind a reply
-  behind : (held : List Held) (g : Member) (m : Message) (ps : List Part) → client_view held (hears h.channel (reply g m ∷ ps)) ≡ client_view held (hears h.channel ps)
+  behind : (held : List Held) (g : Member) (m : Message) (ps : List Part)
+      → client_view held (hears h.channel (reply g m ∷ ps)) ≡ client_view held (hears h.channel ps)
   behind held g m ps =
       ap (client_view held) (hears_append h.channel (reply g m ∷ []) ps) ∙ view_append held (hears h.channel (reply g m ∷ [])) (hears h.channel ps)
       ∙ ap (λ (x : List Held). client_view x (hears h.channel ps)) (mute_view h.channel held (reply g m ∷ []) (mute_reply g m))
@@ -204,7 +215,8 @@ module _ (now : Now) (h : Member) (in_members : Among now.members h) (rises : Ri
   abbrev olds_of : ℕ → List Track
   olds_of n = option_to_list (track_of now n)
 
-  olds_same : (t : Track) (o : Option Track) → track_of now t.channel ≡ o → AllOf (λ (u : Track). leaves_in (option_to_list o) u ≡ (t.channel == u.channel)) now.tracks
+  olds_same : (t : Track) (o : Option Track) → track_of now t.channel ≡ o
+      → AllOf (λ (u : Track). leaves_in (option_to_list o) u ≡ (t.channel == u.channel)) now.tracks
   olds_same t None e = all_weaker (λ (u : Track). (u.channel == t.channel) ≡ false) (λ (u : Track). false ≡ (t.channel == u.channel)) now.tracks (λ u f. sym (eqb_turn t.channel u.channel ∙ f)) (none_found t.channel now.tracks e)
   olds_same t (Some o) e =
       let f = one_found t.channel now.tracks o e in
@@ -236,7 +248,8 @@ module _ (now : Now) (h : Member) (in_members : Among now.members h) (rises : Ri
       let gone : departed_in ds ≡ [] = no_departures (t ∷ []) olds ms in
       let said : hears h.channel ds ≡ elim (bytes_eq h.channel.topic g.channel.topic) as (λ x. List Message) [ true ↦ presence_diff h.channel (t ∷ []) olds ∷ [] | false ↦ [] ] =
       hears_own now h in_members rises apart enabled [] g.channel.topic (t ∷ []) olds refl in
-      let moved = track_view t olds held (bytes_eq h.channel.topic g.channel.topic) refl refl (olds_same t (track_of now n) refl) (olds_fresh t n (track_of now n) refl refl) (olds_fit n (track_of now n) refl)
+      let moved =
+      track_view t olds held (bytes_eq h.channel.topic g.channel.topic) refl refl (olds_same t (track_of now n) refl) (olds_fresh t n (track_of now n) refl refl) (olds_fit n (track_of now n) refl)
       (λ u i e. ap (λ (tp : List ℕ). bytes_eq tp h.channel.topic) (sym (topics u g i here (same_number n u.channel e)))) mv in
       let P : List Message → Type 0 = λ xs. Moves (client_view held xs) (map shown_meta (filter on (after_with now h in_members rises apart enabled chans refs small [] ((n, Some t) ∷ [])))) in
       let Q : List Held → Type 0 = λ x. Moves x (map shown_meta (filter on (after_with now h in_members rises apart enabled chans refs small [] ((n, Some t) ∷ [])))) in
@@ -244,8 +257,10 @@ module _ (now : Now) (h : Member) (in_members : Among now.members h) (rises : Ri
       let S : List (ℕ × Option Track) → Type 0 = λ xs. Moves (client_view held (hears h.channel (track_parts now g.channel m t))) (map shown_meta (filter on (after_with now h in_members rises apart enabled chans refs small (departed_in ds) ((n, Some t) ∷ xs)))) in
       subst S (sym none) (subst R (sym gone) (subst Q (sym (behind held g m (Tracks t ∷ ds))) (subst P (sym said) moved)))
 
-  untrack_is : (n : ℕ) → filter (λ (u : Track). not (has u.channel (n ∷ []))) now.tracks ≡ filter (λ (u : Track). is_last u.channel ((n, None) ∷ []) && not (has u.channel [])) now.tracks
-  untrack_is n = filter_alike (λ u. not ((n == u.channel) || false)) (λ u. not ((n == u.channel) || false) && not false) now.tracks (all_every (λ (u : Track). not ((n == u.channel) || false) ≡ (not ((n == u.channel) || false) && not false)) now.tracks (λ u. and_yes (n == u.channel)))
+  untrack_is : (n : ℕ)
+      → filter (λ (u : Track). not (has u.channel (n ∷ []))) now.tracks ≡ filter (λ (u : Track). is_last u.channel ((n, None) ∷ []) && not (has u.channel [])) now.tracks
+  untrack_is n =
+      filter_alike (λ u. not ((n == u.channel) || false)) (λ u. not ((n == u.channel) || false) && not false) now.tracks (all_every (λ (u : Track). not ((n == u.channel) || false) ≡ (not ((n == u.channel) || false) && not false)) now.tracks (λ u. and_yes (n == u.channel)))
 
   holds_untrack : (g : Member) (m : Message) (o : Option Track) → track_of now g.channel.number ≡ o
       → Holds (reply g m ∷ (untrack_part g.channel.number o ++ leave_diffs now [] o))
@@ -256,7 +271,8 @@ module _ (now : Now) (h : Member) (in_members : Among now.members h) (rises : Ri
       let ms = filter (watches [] t.topic) now.members in
       let none : tracks_in ds ≡ [] = no_track_parts [] (t ∷ []) ms in
       let gone : departed_in ds ≡ [] = no_departures [] (t ∷ []) ms in
-      let all : filter (λ (u : Track). not (has u.channel [])) now.tracks ≡ now.tracks = filter_all (λ (u : Track). not (has u.channel [])) now.tracks (all_every (λ (u : Track). not (has u.channel []) ≡ true) now.tracks (λ u. refl)) in
+      let all : filter (λ (u : Track). not (has u.channel [])) now.tracks ≡ now.tracks =
+      filter_all (λ (u : Track). not (has u.channel [])) now.tracks (all_every (λ (u : Track). not (has u.channel []) ≡ true) now.tracks (λ u. refl)) in
       let P0 : List Track → Type 0 = λ us. Moves held (map shown_meta (filter on us)) in
       let moved = leave_view now h in_members rises apart enabled chans refs small [] n (Some t) held e (subst P0 (sym all) mv) in
       let after : List ℕ → List (ℕ × Option Track) → List Held = λ xs ys. map shown_meta (filter on (after_with now h in_members rises apart enabled chans refs small xs ys)) in
@@ -287,7 +303,8 @@ module _ (now : Now) (h : Member) (in_members : Among now.members h) (rises : Ri
       (mute_tell_if ch.ack ch.slot (reply_ok ch.join_ref m no_members) ((refl, refl), tt)) (all_map IsMute (broadcast_part m) to (λ g. (refl, refl)))
 
   found : (slot : ℕ) (topic : List ℕ) → Maybe (Among now.members) (channel_on now slot topic)
-  found slot topic = find_of (Among now.members) (λ m. is_on topic m.channel) (channels_of now slot) (all_filter (Among now.members) (is_of_slot slot) now.members (all_themselves now.members))
+  found slot topic =
+      find_of (Among now.members) (λ m. is_on topic m.channel) (channels_of now slot) (all_filter (Among now.members) (is_of_slot slot) now.members (all_themselves now.members))
 
   module _ (c : Catalog) (s : Settings) where
     holds_ask : (o : Opening) (g : Member) (m : Message) (k : Ask) → Among now.members g → Holds (ask_parts c s now o g m k)
@@ -297,10 +314,12 @@ module _ (now : Now) (h : Member) (in_members : Among now.members h) (rises : Ri
     holds_ask o g m ask.broadcast here = holds_mute (broadcast_parts now g.channel m) (mute_broadcast g.channel m)
     holds_ask o g m (track tree) here = holds_track g m tree here
     holds_ask o g m untrack here = holds_untrack g m (track_of now g.channel.number) refl
-    holds_ask o g m unknown_presence here = holds_mute (tell g.channel.slot (reply_error g.channel.join_ref m (codes "unknown presence event"))) ((refl, refl), tt)
+    holds_ask o g m unknown_presence here =
+        holds_mute (tell g.channel.slot (reply_error g.channel.join_ref m (codes "unknown presence event"))) ((refl, refl), tt)
     holds_ask o g m nothing here = holds_mute [] tt
 
-    holds_channel : (slot : ℕ) (o : Opening) (m : Message) (g : Option Member) → Maybe (Among now.members) g → Holds (channel_parts c s now slot o m g)
+    holds_channel : (slot : ℕ) (o : Opening) (m : Message) (g : Option Member) → Maybe (Among now.members) g
+        → Holds (channel_parts c s now slot o m g)
     holds_channel slot o m None here = holds_mute (tell slot (reply_error m.join_ref m (codes "unmatched topic"))) ((refl, refl), tt)
     holds_channel slot o m (Some g) here =
         by_case (is_shut g.channel m) (tell slot (reply_error g.channel.join_ref m (codes "presence disabled"))) (ask_parts c s now o g m (ask_of m))
@@ -314,7 +333,8 @@ module _ (now : Now) (h : Member) (in_members : Among now.members h) (rises : Ri
         (holds_mute (tell slot (reply_error m.join_ref m (codes "unmatched topic"))) ((refl, refl), tt))
 
     holds_message : (slot : ℕ) (o : Opening) (m : Option Message) → Holds (message_parts c s now slot o m)
-    holds_message slot o None = holds_by (end_of now [] slot end_name.BadFrame) (end_turn now h in_members rises apart enabled chans refs small [] slot end_name.BadFrame)
+    holds_message slot o None =
+        holds_by (end_of now [] slot end_name.BadFrame) (end_turn now h in_members rises apart enabled chans refs small [] slot end_name.BadFrame)
     holds_message slot o (Some m) =
         by_test (is_heartbeat m) (tell slot (reply_ok m.join_ref m no_members)) (if is_join m then join_parts c s now slot o m else channel_parts c s now slot o m (channel_on now slot m.topic))
         (holds_mute (tell slot (reply_ok m.join_ref m no_members)) ((refl, refl), tt))

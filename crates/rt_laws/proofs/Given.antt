@@ -80,7 +80,8 @@ shows_end k p h =
     shows k p false true a b
 
 -- nothing is shown of what is cut
-pub quiet : (n : ℕ) (ks : List Cut) (ps : List Placed) → AllBefore n ks → Numbered n ps → filter (is_uncut ks) ps ≡ [] → flat_map (shown_at ks) ps ≡ []
+pub quiet : (n : ℕ) (ks : List Cut) (ps : List Placed) → AllBefore n ks → Numbered n ps → filter (is_uncut ks) ps ≡ []
+    → flat_map (shown_at ks) ps ≡ []
 quiet n ks [] b h e = refl
 quiet n ks (p ∷ ps) b h e =
     elim (cutting n ks p.opening b) [
@@ -102,10 +103,12 @@ pub record Front (n : ℕ) (ks : List Cut) (ps : List Placed) (p : Placed) : Typ
   pub here : drop count ps ≡ p ∷ rest
   pub none : cut_of ks p.opening ≡ None
 
-front_here : (n : ℕ) (ks : List Cut) (x : Placed) (xs : List Placed) (p : Placed) → x.place ≡ n → cut_of ks x.opening ≡ None → x ≡ p → Front n ks (x ∷ xs) p
+front_here : (n : ℕ) (ks : List Cut) (x : Placed) (xs : List Placed) (p : Placed) → x.place ≡ n → cut_of ks x.opening ≡ None → x ≡ p
+    → Front n ks (x ∷ xs) p
 front_here n ks x xs p h c e = record { count = 0; rest = xs; at = ap (λ (q : Placed). q.place) (sym e) ∙ h ∙ (let z : n ≡ n + 0 = omega arith in z); quiet = refl; here = ap (λ q. q ∷ xs) e; none = ap (λ (q : Placed). cut_of ks q.opening) (sym e) ∙ c }
 
-front_later : (n : ℕ) (ks : List Cut) (x : Placed) (xs : List Placed) (p : Placed) → shown_at ks x ≡ [] → Front (n + 1) ks xs p → Front n ks (x ∷ xs) p
+front_later : (n : ℕ) (ks : List Cut) (x : Placed) (xs : List Placed) (p : Placed) → shown_at ks x ≡ [] → Front (n + 1) ks xs p
+    → Front n ks (x ∷ xs) p
 front_later n ks x xs p s f = record {
   count = suc f.count;
   rest = f.rest;
@@ -115,7 +118,8 @@ front_later n ks x xs p s f = record {
   none = f.none;
 }
 
-pub front_of : (n : ℕ) (ks : List Cut) (ps : List Placed) (p : Placed) (more : List Placed) → AllBefore n ks → Numbered n ps → filter (is_uncut ks) ps ≡ p ∷ more → Front n ks ps p
+pub front_of : (n : ℕ) (ks : List Cut) (ps : List Placed) (p : Placed) (more : List Placed) → AllBefore n ks → Numbered n ps
+    → filter (is_uncut ks) ps ≡ p ∷ more → Front n ks ps p
 front_of n ks [] p more b h e = absurd (cc)
 front_of n ks (x ∷ xs) p more b h e =
     elim (cutting n ks x.opening b) [
@@ -123,7 +127,9 @@ front_of n ks (x ∷ xs) p more b h e =
       | cut_at k i c lt ↦ front_later n ks x xs p (ap (λ o. shown_by o x) c ∙ shows_none k x (omega (arith, h.0))) (front_of (n + 1) ks xs p more (before_more n (n + 1) ks (omega arith) b) h.1 (rw i at e))
     ]
 
-push_other : (j : Cut) (ks : List Cut) (k : Cut) (p : Placed) → shown_at (ks ++ k ∷ []) p ≡ shown_at ks p → ((eqb j.opening p.opening ≡ true) × (j.opening ≡ p.opening)) ⊎ ((eqb j.opening p.opening ≡ false) × (j.opening ≢ p.opening)) → shown_at ((j ∷ ks) ++ k ∷ []) p ≡ shown_at (j ∷ ks) p
+push_other : (j : Cut) (ks : List Cut) (k : Cut) (p : Placed) → shown_at (ks ++ k ∷ []) p ≡ shown_at ks p
+    → ((eqb j.opening p.opening ≡ true) × (j.opening ≡ p.opening)) ⊎ ((eqb j.opening p.opening ≡ false) × (j.opening ≢ p.opening))
+    → shown_at ((j ∷ ks) ++ k ∷ []) p ≡ shown_at (j ∷ ks) p
 push_other j ks k p h (inl t) = let e = t.0 in rw e refl
 push_other j ks k p h (inr t) = let e = t.0 in rw e h
 
@@ -131,13 +137,15 @@ cut_of_push : (n : ℕ) (ks : List Cut) (k : Cut) (p : Placed) → AllBefore n k
 cut_of_push n [] k p b h = elim (eqb_tells k.opening p.opening) [ inl t ↦ let e = t.0 in rw e (shows_item k p h) | inr t ↦ let e = t.0 in rw e refl ]
 cut_of_push n (j ∷ ks) k p b h = push_other j ks k p (cut_of_push n ks k p b.1 h) (eqb_tells j.opening p.opening)
 
-cuts_push : (n m : ℕ) (ks : List Cut) (k : Cut) (ps : List Placed) → AllBefore m ks → Numbered n ps → n + length ps ≤ k.place → flat_map (shown_at (ks ++ k ∷ [])) ps ≡ flat_map (shown_at ks) ps
+cuts_push : (n m : ℕ) (ks : List Cut) (k : Cut) (ps : List Placed) → AllBefore m ks → Numbered n ps → n + length ps ≤ k.place
+    → flat_map (shown_at (ks ++ k ∷ [])) ps ≡ flat_map (shown_at ks) ps
 cuts_push n m ks k [] b h le = refl
 cuts_push n m ks k (p ∷ ps) b h le =
     ap (λ xs. xs ++ flat_map (shown_at (ks ++ k ∷ [])) ps) (cut_of_push m ks k p b (omega (arith, h.0)))
     ∙ ap (λ xs. shown_at ks p ++ xs) (cuts_push (n + 1) m ks k ps b h.1 (omega arith))
 
-new_cut : (ks : List Cut) (k : Cut) (p : Placed) → cut_of ks p.opening ≡ None → k.opening ≡ p.opening → p.place ≡ k.place → shown_at (ks ++ k ∷ []) p ≡ End OutboxFull ∷ []
+new_cut : (ks : List Cut) (k : Cut) (p : Placed) → cut_of ks p.opening ≡ None → k.opening ≡ p.opening → p.place ≡ k.place
+    → shown_at (ks ++ k ∷ []) p ≡ End OutboxFull ∷ []
 new_cut [] k p c o e = let t : eqb k.opening p.opening ≡ true = grind (arith, nat_tests) in rw t (shows_end k p e)
 new_cut (j ∷ ks) k p c o e =
     elim (eqb_tells j.opening p.opening) [
@@ -152,7 +160,8 @@ pub record IsGiven (items : List Item) (given : List Item) (past : ℕ) (cuts : 
   pub before : AllBefore past cuts
 
 -- what is shown before the front
-before_front : (items given : List Item) (past : ℕ) (cuts : List Cut) (p : Placed) → IsGiven items given past cuts → Front past cuts (drop past (placed items)) p →
+before_front : (items given : List Item) (past : ℕ) (cuts : List Cut) (p : Placed) → IsGiven items given past cuts
+    → Front past cuts (drop past (placed items)) p →
     flat_map (shown_at cuts) (take p.place (placed items)) ≡ given
 before_front items given past cuts p g f =
     let all = placed items in
@@ -163,10 +172,12 @@ before_front items given past cuts p g f =
     ∙ append-nil (flat_map (shown_at cuts) (take past all))
     ∙ sym g.is
 
-front_at : (items : List Item) (past : ℕ) (cuts : List Cut) (p : Placed) (f : Front past cuts (drop past (placed items)) p) → drop p.place (placed items) ≡ p ∷ f.rest
+front_at : (items : List Item) (past : ℕ) (cuts : List Cut) (p : Placed) (f : Front past cuts (drop past (placed items)) p)
+    → drop p.place (placed items) ≡ p ∷ f.rest
 front_at items past cuts p f = ap (λ n. drop n (placed items)) f.at ∙ drop_add past f.count (placed items) ∙ f.here
 
-pub give : (items given : List Item) (past : ℕ) (cuts : List Cut) (p : Placed) → IsGiven items given past cuts → Front past cuts (drop past (placed items)) p →
+pub give : (items given : List Item) (past : ℕ) (cuts : List Cut) (p : Placed) → IsGiven items given past cuts
+    → Front past cuts (drop past (placed items)) p →
     IsGiven items (given ++ p.item ∷ []) (p.place + 1) cuts
 give items given past cuts p g f =
     let all = placed items in
@@ -182,7 +193,8 @@ give items given past cuts p g f =
       before = before_more past (p.place + 1) cuts (omega arith) g.before;
     }
 
-pub cut_short : (items given : List Item) (past : ℕ) (cuts : List Cut) (p : Placed) (k : Cut) → k.opening ≡ p.opening → p.place ≡ k.place → IsGiven items given past cuts → Front past cuts (drop past (placed items)) p →
+pub cut_short : (items given : List Item) (past : ℕ) (cuts : List Cut) (p : Placed) (k : Cut) → k.opening ≡ p.opening → p.place ≡ k.place
+    → IsGiven items given past cuts → Front past cuts (drop past (placed items)) p →
     IsGiven items (given ++ End OutboxFull ∷ []) (p.place + 1) (cuts ++ k ∷ [])
 cut_short items given past cuts p k o e g f =
     let all = placed items in
@@ -216,7 +228,8 @@ more_items items more given past cuts g =
     }
 
 -- what was given is a prefix of what is shown, and all of it where nothing is pending
-pub given_prefix : (items given : List Item) (past : ℕ) (cuts : List Cut) → IsGiven items given past cuts → (rest : List Item) × (given ++ rest ≡ shown items cuts)
+pub given_prefix : (items given : List Item) (past : ℕ) (cuts : List Cut) → IsGiven items given past cuts
+    → (rest : List Item) × (given ++ rest ≡ shown items cuts)
 unfolding shown
 given_prefix items given past cuts g =
     let all = placed items in (
@@ -226,11 +239,14 @@ given_prefix items given past cuts g =
           ∙ ap (flat_map (shown_at cuts)) (take-append-drop past all),
     )
 
-pub given_all : (items given : List Item) (past : ℕ) (cuts : List Cut) → IsGiven items given past cuts → filter (is_uncut cuts) (drop past (placed items)) ≡ [] → given ≡ shown items cuts
+pub given_all : (items given : List Item) (past : ℕ) (cuts : List Cut) → IsGiven items given past cuts
+    → filter (is_uncut cuts) (drop past (placed items)) ≡ [] → given ≡ shown items cuts
 unfolding shown
 given_all items given past cuts g nothing =
     let all = placed items in
-    let rest : Numbered past (drop past all) = let e : 0 + past ≡ past = omega arith in let P : ℕ → Type 0 = λ n. Numbered n (drop past all) in subst P e (numbered_drop 0 past all (numbered 0 0 items)) in
+    let rest : Numbered past (drop past all) =
+    let e : 0 + past ≡ past =
+    omega arith in let P : ℕ → Type 0 = λ n. Numbered n (drop past all) in subst P e (numbered_drop 0 past all (numbered 0 0 items)) in
     g.is
     ∙ sym (append-nil (flat_map (shown_at cuts) (take past all)))
     ∙ ap (λ xs. flat_map (shown_at cuts) (take past all) ++ xs) (sym (quiet past cuts (drop past all) g.before rest nothing))

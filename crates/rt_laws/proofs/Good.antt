@@ -69,7 +69,8 @@ module _ (c : Catalog) (s : Settings) where
         let l = lane_of c s slot in
         let within : (w.lanes l).worked ≤ length (lane_marks c s w.journal l) = omega (arith, g.worked l, g.sent l) in
         let same : take (w.lanes l).worked (lane_marks c s (i ∷ w.journal) l) ≡ take (w.lanes l).worked (lane_marks c s w.journal l) =
-        ap (take (w.lanes l).worked) (lane_more c s w.journal i l) ∙ take-append-le (w.lanes l).worked (lane_marks c s w.journal l) (marks_of c s l w.journal i) within in
+        ap (take (w.lanes l).worked) (lane_more c s w.journal i l)
+        ∙ take-append-le (w.lanes l).worked (lane_marks c s w.journal l) (marks_of c s l w.journal i) within in
         let P : List Mark → Type 0 = λ ms. IsGiven (items_for slot (answers_of_marks c s ms)) (w.slots slot).given (w.slots slot).past (w.slots slot).cuts in
         subst P (sym same) (g.slots slot);
   }
@@ -82,11 +83,13 @@ module _ (c : Catalog) (s : Settings) where
       by_case (nat_le s.inputs (length w.journal)) (spent, w) (elim (nat_lt s.rows (rows_left c s w.journal i)) [ true ↦ (rows_full, w) | false ↦ (done, record rest { journal = i ∷ w.journal }) ]) g
       (by_case (nat_lt s.rows (rows_left c s w.journal i)) (rows_full, w) (done, record rest { journal = i ∷ w.journal }) g next)
 
-  first_good : (w : World) (inputs : List Input) (put : List Input → World → World) → IsGood w → ((is : List Input) → IsGood (put is w)) → ((is : List Input) → (put is w).journal ≡ w.journal) → Leads (take_first c s w inputs put)
+  first_good : (w : World) (inputs : List Input) (put : List Input → World → World) → IsGood w → ((is : List Input) → IsGood (put is w))
+      → ((is : List Input) → (put is w).journal ≡ w.journal) → Leads (take_first c s w inputs put)
   first_good w [] put g p e = g
   first_good w (i ∷ rest) put g p e = input_good w (put rest w) i g (p rest) (e rest)
 
-  arrive_good : (w : World) (inputs : List Input) (put : List Input → World → World) (i : Input) → IsGood w → ((is : List Input) → IsGood (put is w)) → Leads (arrive c s w inputs put i)
+  arrive_good : (w : World) (inputs : List Input) (put : List Input → World → World) (i : Input) → IsGood w → ((is : List Input) → IsGood (put is w))
+      → Leads (arrive c s w inputs put i)
   arrive_good w inputs put i g p = by_case (nat_lt (length inputs) s.inlet) (done, put (inputs ++ i ∷ []) w) (full, w) (p (inputs ++ i ∷ [])) g
 
   inlet_good : (w : World) (slot : ℕ) (inputs : List Input) → IsGood w → IsGood (put_inlet slot inputs w)
@@ -115,7 +118,8 @@ module _ (c : Catalog) (s : Settings) where
       record {
         worked = with_all (λ m y. y.worked ≤ y.sent) w.lanes l x (omega arith) g.worked;
         sent = with_all (λ m y. y.sent ≤ length (lane_marks c s w.journal m)) w.lanes l x less g.sent;
-        slots = λ slot. with_all (λ m y. Same slot w m (w.lanes m) → Same slot w m y) w.lanes l x (λ h. h) (λ m h. h) (lane_of c s slot) (g.slots slot);
+        slots =
+            λ slot. with_all (λ m y. Same slot w m (w.lanes m) → Same slot w m y) w.lanes l x (λ h. h) (λ m h. h) (lane_of c s slot) (g.slots slot);
       }
 
   send_good : (w : World) (l : ℕ) → IsGood w → Leads (send c s w l (w.lanes l))
@@ -142,20 +146,25 @@ module _ (c : Catalog) (s : Settings) where
       record {
         worked = with_all (λ m y. y.worked ≤ y.sent) w.lanes l x (omega arith) g.worked;
         sent = with_all (λ m y. y.sent ≤ length (lane_marks c s w.journal m)) w.lanes l x (g.sent l) g.sent;
-        slots = λ slot. with_all (λ m y. Same slot w m (w.lanes m) → Same slot w m y) w.lanes l x (more_worked w slot l) (λ m h. h) (lane_of c s slot) (g.slots slot);
+        slots =
+            λ slot. with_all (λ m y. Same slot w m (w.lanes m) → Same slot w m y) w.lanes l x (more_worked w slot l) (λ m h. h) (lane_of c s slot) (g.slots slot);
       }
 
   work_good : (w : World) (l : ℕ) → IsGood w → Leads (work w l (w.lanes l))
   work_good w l g =
       by_test ((w.lanes l).worked == (w.lanes l).sent) (empty, w) (done, with_lane w l (record (w.lanes l) { worked = (w.lanes l).worked + 1 })) (λ h. g) (λ h. worked_good w l g h)
 
-  push_good : (w : World) (slot : ℕ) (ps : List Placed) → IsGood w → filter (is_uncut (w.slots slot).cuts) (drop (w.slots slot).past (placed (worked_items c s w slot))) ≡ ps → Leads (push c s w slot (w.slots slot) ps)
+  push_good : (w : World) (slot : ℕ) (ps : List Placed) → IsGood w
+      → filter (is_uncut (w.slots slot).cuts) (drop (w.slots slot).past (placed (worked_items c s w slot))) ≡ ps
+      → Leads (push c s w slot (w.slots slot) ps)
   push_good w slot [] g e = g
   push_good w slot (p ∷ ps) g e =
       let x = w.slots slot in
       let items = worked_items c s w slot in
       let here = g.slots slot in
-      let rest : Numbered x.past (drop x.past (placed items)) = let z : 0 + x.past ≡ x.past = omega arith in let P : ℕ → Type 0 = λ n. Numbered n (drop x.past (placed items)) in subst P z (numbered_drop 0 x.past (placed items) (numbered 0 0 items)) in
+      let rest : Numbered x.past (drop x.past (placed items)) =
+      let z : 0 + x.past ≡ x.past =
+      omega arith in let P : ℕ → Type 0 = λ n. Numbered n (drop x.past (placed items)) in subst P z (numbered_drop 0 x.past (placed items) (numbered 0 0 items)) in
       let f = front_of x.past x.cuts (drop x.past (placed items)) p ps here.before rest e in
       let k : Cut = record { opening = p.opening; place = p.place } in
       by_case (is_full_for c s x p.item) (full, with_slot w slot (with_cut x p)) (done, with_slot w slot (with_given x p))
@@ -191,7 +200,8 @@ module _ (c : Catalog) (s : Settings) where
   start_good = record {
     worked = λ l. omega arith;
     sent = λ l. omega arith;
-    slots = λ slot. none_given slot (worked_items c s start slot) (ap (λ ms. items_for slot (answers_of_marks c s (take 0 ms))) (lane_none c s (lane_of c s slot)) ∙ ap (items_for slot) (no_marks c s));
+    slots =
+        λ slot. none_given slot (worked_items c s start slot) (ap (λ ms. items_for slot (answers_of_marks c s (take 0 ms))) (lane_none c s (lane_of c s slot)) ∙ ap (items_for slot) (no_marks c s));
   }
 
   pub good_serves : (w : World) (slot : ℕ) → IsGood w → IsServed c s w slot

@@ -36,7 +36,8 @@ pub record IsSound (before : Story) (l : Line) : Type 0 where
   pub old : AllOf (λ (t : Track). is_held (l ∷ before) t ≡ (is_held before t && not (has t.channel (departed_in l.parts)))) (standing_tracks (all_tracks before))
   pub new : filter (is_held (l ∷ before)) (standing_tracks (tracks_in l.parts)) ≡ standing_tracks (tracks_in l.parts)
 
-pub joined_grows : (l : Line) (before : Story) → ((length (joins_of l.parts) ≡ 0) ⊎ (length (joins_of l.parts) ≡ 1)) → joined (l ∷ before) ≡ joined before ++ joins_of l.parts
+pub joined_grows : (l : Line) (before : Story) → ((length (joins_of l.parts) ≡ 0) ⊎ (length (joins_of l.parts) ≡ 1))
+    → joined (l ∷ before) ≡ joined before ++ joins_of l.parts
 unfolding joined
 joined_grows l before one =
     let old = flat_map (λ (k : Line). filter_map joined_by k.parts) before in
@@ -46,9 +47,11 @@ pub departed_grows : (l : Line) (before : Story) (n : ℕ) → has n (departed (
 unfolding departed
 departed_grows l before n = any_append (λ m. m == n) (departed_in l.parts) (departed before)
 
-claims_grow : (l : Line) (before : Story) (ch : Channel) → claims_at (l ∷ before) ch ≡ first_or (claims_at before ch) (filter_map (renewed_by ch.number) l.parts)
+claims_grow : (l : Line) (before : Story) (ch : Channel)
+    → claims_at (l ∷ before) ch ≡ first_or (claims_at before ch) (filter_map (renewed_by ch.number) l.parts)
 unfolding claims_at
-claims_grow l before ch = first_or_append (standing_of ch) (filter_map (renewed_by ch.number) l.parts) (flat_map (λ (k : Line). filter_map (renewed_by ch.number) k.parts) before)
+claims_grow l before ch =
+    first_or_append (standing_of ch) (filter_map (renewed_by ch.number) l.parts) (flat_map (λ (k : Line). filter_map (renewed_by ch.number) k.parts) before)
 
 abbrev stays_in : Story → Channel → Bool
 stays_in story ch = not (has ch.number (departed story))
@@ -58,7 +61,8 @@ remains_by parts ch = not (has ch.number (departed_in parts))
 
 stays_grows : (l : Line) (before : Story) (ch : Channel) → stays_in (l ∷ before) ch ≡ (stays_in before ch && remains_by l.parts ch)
 stays_grows l before ch =
-    ap not (departed_grows l before ch.number) ∙ not_or (has ch.number (departed_in l.parts)) (has ch.number (departed before)) ∙ and_swap (remains_by l.parts ch) (stays_in before ch)
+    ap not (departed_grows l before ch.number) ∙ not_or (has ch.number (departed_in l.parts)) (has ch.number (departed before))
+    ∙ and_swap (remains_by l.parts ch) (stays_in before ch)
 
 -- members without the departed, then the join
 pub members_grow : (l : Line) (before : Story) → ((length (joins_of l.parts) ≡ 0) ⊎ (length (joins_of l.parts) ≡ 1))
@@ -74,7 +78,8 @@ members_grow l before one stays =
 member_grows : (l : Line) (before : Story) (ch : Channel) → member_in (l ∷ before) ch ≡ renewed l.parts (member_in before ch)
 member_grows l before ch = ap (λ (standing : Standing). with_standing ch standing) (claims_grow l before ch)
 
-pub all_members_grow : (l : Line) (before : Story) → IsSound before l → map (member_in (l ∷ before)) (members_at (l ∷ before)) ≡ members_after (map (member_in before) (members_at before)) l.parts
+pub all_members_grow : (l : Line) (before : Story) → IsSound before l
+    → map (member_in (l ∷ before)) (members_at (l ∷ before)) ≡ members_after (map (member_in before) (members_at before)) l.parts
 all_members_grow l before s =
     let old = filter (remains_by l.parts) (members_at before) in
     ap (map (member_in (l ∷ before))) (members_grow l before s.one s.stays)
@@ -85,7 +90,8 @@ all_members_grow l before s =
     ∙ sym (map_map (renewed l.parts) (member_in before) old)
     ∙ ap (map (renewed l.parts)) (sym (filter_map_swap (remains l.parts) (member_in before) (members_at before))))
 
-ids_grow : (l : Line) (before : Story) → IsSound before l → ids_given (l ∷ before) ≡ ids_given before + length (flat_map (λ (ch : Channel). ch.bindings) (joins_of l.parts))
+ids_grow : (l : Line) (before : Story) → IsSound before l
+    → ids_given (l ∷ before) ≡ ids_given before + length (flat_map (λ (ch : Channel). ch.bindings) (joins_of l.parts))
 unfolding ids_given
 ids_grow l before s =
     ap (λ xs. length (flat_map (λ (ch : Channel). ch.bindings) xs)) (joined_grows l before s.one)
@@ -97,7 +103,8 @@ opens_from : (l : Line) (before : Story) (from n : ℕ)
 opens_from l before from zero = refl
 opens_from l before from (suc n) = ap (λ os. opening_at (l ∷ before) from ∷ os) (opens_from l before (from + 1) n)
 
-opens_grow : (l : Line) (before : Story) → map (opening_at (l ∷ before)) every_slot ≡ map (opens_after l.input (moment_at before) l.parts) (enumerate_from 0 (map (opening_at before) every_slot))
+opens_grow : (l : Line) (before : Story)
+    → map (opening_at (l ∷ before)) every_slot ≡ map (opens_after l.input (moment_at before) l.parts) (enumerate_from 0 (map (opening_at before) every_slot))
 unfolding every_slot
 opens_grow l before = opens_from l before 0 256
 
@@ -112,7 +119,8 @@ standing_case true true t p xs ys e = ap (λ z. cond z (t ∷ filter p xs) (filt
 standing_case true false t p xs ys e = ap (λ z. cond z (t ∷ filter p xs) (filter p xs) ++ ys) (sym e)
 standing_case false b t p xs ys e = refl
 
-pub standing_append : (xs ys : List (ℕ × Option Track)) → AllOf Tagged xs → standing_tracks (xs ++ ys) ≡ filter (λ (t : Track). is_last t.channel ys) (standing_tracks xs) ++ standing_tracks ys
+pub standing_append : (xs ys : List (ℕ × Option Track)) → AllOf Tagged xs
+    → standing_tracks (xs ++ ys) ≡ filter (λ (t : Track). is_last t.channel ys) (standing_tracks xs) ++ standing_tracks ys
 standing_append [] ys a = refl
 standing_append ((n, None) ∷ xs) ys a = standing_append xs ys a.1
 standing_append ((n, Some t) ∷ xs) ys a =
@@ -149,7 +157,8 @@ tracks_grow l before s =
     (λ t e. ap (λ b. last t && b) e ∙ and_rotate (last t) (is_held before t) (stays t)) s.old)
     ∙ filter_and (outlasts l.parts) (is_held before) old)
 
-same_now : (n m t u : ℕ) (a b : Bool) (os ps : List (Option Opening)) (hs ks : List Member) (xs ys : List Track) (i j : ℕ) → n ≡ m → t ≡ u → a ≡ b → os ≡ ps → hs ≡ ks → xs ≡ ys → i ≡ j →
+same_now : (n m t u : ℕ) (a b : Bool) (os ps : List (Option Opening)) (hs ks : List Member) (xs ys : List Track) (i j : ℕ) → n ≡ m → t ≡ u → a ≡ b
+    → os ≡ ps → hs ≡ ks → xs ≡ ys → i ≡ j →
     let x : Now = record { number = n; moment = t; stopped = a; opens = os; members = hs; tracks = xs; ids = i } in
     let y : Now = record { number = m; moment = u; stopped = b; opens = ps; members = ks; tracks = ys; ids = j } in x ≡ y
 same_now n m t u a b os ps hs ks xs ys i j e f g h k o p = cc

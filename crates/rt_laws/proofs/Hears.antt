@@ -37,12 +37,15 @@ abbrev pub hears : Channel → List Part → List Message
 hears ch ps = filter_map (said_to ch) (filter_map answer_of ps)
 
 pub hears_append : (ch : Channel) (ps qs : List Part) → hears ch (ps ++ qs) ≡ hears ch ps ++ hears ch qs
-hears_append ch ps qs = ap (filter_map (said_to ch)) (filter_map-append answer_of ps qs) ∙ filter_map-append (said_to ch) (filter_map answer_of ps) (filter_map answer_of qs)
+hears_append ch ps qs =
+    ap (filter_map (said_to ch)) (filter_map-append answer_of ps qs)
+    ∙ filter_map-append (said_to ch) (filter_map answer_of ps) (filter_map answer_of qs)
 
 abbrev pub at : Channel → Member → Bool
 at ch m = (m.channel.slot == ch.slot) && bytes_eq m.channel.topic ch.topic
 
-heard_one : (ch : Channel) (m : Message) (ms : List Message) (b : Bool) → cons_option (elim b as (λ t. Option Message) [ true ↦ Some m | false ↦ None ]) ms ≡ cond b (m ∷ ms) ms
+heard_one : (ch : Channel) (m : Message) (ms : List Message) (b : Bool)
+    → cons_option (elim b as (λ t. Option Message) [ true ↦ Some m | false ↦ None ]) ms ≡ cond b (m ∷ ms) ms
 heard_one ch m ms true = refl
 heard_one ch m ms false = refl
 
@@ -51,7 +54,8 @@ map_or f x xs true = refl
 map_or f x xs false = refl
 
 -- of differences a channel hears its own
-hears_diffs : (ch : Channel) (joins leaves : List Track) (ms : List Member) → hears ch (map (diff_to joins leaves) ms) ≡ map (λ (m : Member). presence_diff m.channel joins leaves) (filter (at ch) ms)
+hears_diffs : (ch : Channel) (joins leaves : List Track) (ms : List Member)
+    → hears ch (map (diff_to joins leaves) ms) ≡ map (λ (m : Member). presence_diff m.channel joins leaves) (filter (at ch) ms)
 hears_diffs ch joins leaves [] = refl
 hears_diffs ch joins leaves (m ∷ ms) =
     let say : Member → Message = λ x. presence_diff x.channel joins leaves in
@@ -102,7 +106,8 @@ module _ (now : Now) (h : Member) (in_members : Among now.members h) (rises : Ri
   alone : filter (at h.channel) now.members ≡ h ∷ []
   alone =
       let found = filter (at h.channel) now.members in
-      let here : at h.channel h ≡ true = both_true (h.channel.slot == h.channel.slot) (bytes_eq h.channel.topic h.channel.topic) (eqb_same h.channel.slot) ((bytes_eq-Decides h.channel.topic h.channel.topic).1 refl) in
+      let here : at h.channel h ≡ true =
+      both_true (h.channel.slot == h.channel.slot) (bytes_eq h.channel.topic h.channel.topic) (eqb_same h.channel.slot) ((bytes_eq-Decides h.channel.topic h.channel.topic).1 refl) in
       sole found h (rising_filter (at h.channel) now.members rises)
       (all_weaker (Among found) (λ (g : Member). g ≡ h) found
       (λ g i.
@@ -119,7 +124,8 @@ module _ (now : Now) (h : Member) (in_members : Among now.members h) (rises : Ri
         and_trues true = refl
         and_trues false = refl
 
-  one_or_none : (joins leaves : List Track) (b : Bool) → map (λ (m : Member). presence_diff m.channel joins leaves) (cond b (h ∷ []) []) ≡ elim b [ true ↦ presence_diff h.channel joins leaves ∷ [] | false ↦ [] ]
+  one_or_none : (joins leaves : List Track) (b : Bool)
+      → map (λ (m : Member). presence_diff m.channel joins leaves) (cond b (h ∷ []) []) ≡ elim b [ true ↦ presence_diff h.channel joins leaves ∷ [] | false ↦ [] ]
   one_or_none joins leaves true = refl
   one_or_none joins leaves false = refl
 
@@ -132,7 +138,8 @@ module _ (now : Now) (h : Member) (in_members : Among now.members h) (rises : Ri
       ∙ ap (λ b. map say (cond b (h ∷ []) [])) (watching gone topic (bytes_eq h.channel.topic topic) refl stays)
       ∙ one_or_none joins leaves (bytes_eq h.channel.topic topic)
 
-  pub hears_leave : (gone : List ℕ) (o : Option Track) → has h.channel.number gone ≡ false → hears h.channel (leave_diffs now gone o) ≡ leave_for h.channel o
+  pub hears_leave : (gone : List ℕ) (o : Option Track) → has h.channel.number gone ≡ false
+      → hears h.channel (leave_diffs now gone o) ≡ leave_for h.channel o
   hears_leave gone None stays = refl
   hears_leave gone (Some t) stays = hears_own gone t.topic [] (t ∷ []) stays
 
@@ -159,7 +166,8 @@ module _ (now : Now) (h : Member) (in_members : Among now.members h) (rises : Ri
       hears_append h.channel ds (Ends slot name ∷ []) ∙ append-nil (hears h.channel ds) ∙ hears_turn [] (channels_of now slot) a refl
 
 module _ (c : Catalog) (s : Settings) where
-  others_of : (st : Story) (sh : Shaped st) (h : Member) (slot : ℕ) → Among (members_in st) h → h.channel.slot ≢ slot → AllOf (λ (g : Member). (g.channel.number == h.channel.number) ≡ false) (filter (is_of_slot slot) (members_in st))
+  others_of : (st : Story) (sh : Shaped st) (h : Member) (slot : ℕ) → Among (members_in st) h → h.channel.slot ≢ slot
+      → AllOf (λ (g : Member). (g.channel.number == h.channel.number) ≡ false) (filter (is_of_slot slot) (members_in st))
   others_of st sh h slot here ne =
       let gs = filter (is_of_slot slot) (members_in st) in
       all_weaker (Among gs) (λ (g : Member). (g.channel.number == h.channel.number) ≡ false) gs

@@ -14,7 +14,8 @@ module _ (c : Catalog) (s : Settings) where
   abbrev line_of : List Input → Input → Line
   line_of journal i = record { input = i; parts = doings c s (now_of (story c s journal)) (tables_left c (story c s journal) i) i }
 
-  pub shape_next : (st : Story) (i : Input) → Shaped st → Shape (fine_for i) (length st) (members_in st) (doings c s (now_of st) (tables_left c st i) i)
+  pub shape_next : (st : Story) (i : Input) → Shaped st
+      → Shape (fine_for i) (length st) (members_in st) (doings c s (now_of st) (tables_left c st i) i)
   unfolding now_of
   shape_next st i h = shape_doings (now_of st) (held_below st h) (members_apart st h) c s (tables_left c st i) i
 
@@ -27,7 +28,8 @@ module _ (c : Catalog) (s : Settings) where
   unfolding story
   story_more journal i = refl
 
-  pub story_grows : (journal : List Input) (i : Input) → now_of (story c s (i ∷ journal)) ≡ after (now_of (story c s journal)) i (doings c s (now_of (story c s journal)) (tables_left c (story c s journal) i) i)
+  pub story_grows : (journal : List Input) (i : Input)
+      → now_of (story c s (i ∷ journal)) ≡ after (now_of (story c s journal)) i (doings c s (now_of (story c s journal)) (tables_left c (story c s journal) i) i)
   story_grows journal i =
       let st = story c s journal in
       let l = line_of journal i in

@@ -38,7 +38,8 @@ Rises (k ∷ ks) = Above k ks × Rises ks
 above_less : (k l : List ℕ) (ls : List (List ℕ)) → by_bytes k l ≡ Less → Above l ls → Above k ls
 above_less k l ls e a = all_weaker (λ (m : List ℕ). by_bytes l m ≡ Less) (λ (m : List ℕ). by_bytes k m ≡ Less) ls (λ m f. nat_list_cmp_total.trans k l m e f) a
 
-above_put : (j k l : List ℕ) (ls more : List (List ℕ)) (o : Ordering) → by_bytes j k ≡ Less → Above j (l ∷ ls) → Above j more → Above j (inserted_by by_bytes o k l ls more)
+above_put : (j k l : List ℕ) (ls more : List (List ℕ)) (o : Ordering) → by_bytes j k ≡ Less → Above j (l ∷ ls) → Above j more
+    → Above j (inserted_by by_bytes o k l ls more)
 above_put j k l ls more Less e a m = (e, a)
 above_put j k l ls more Equal e a m = a
 above_put j k l ls more Greater e a m = (a.0, m)
@@ -47,7 +48,8 @@ above_inserted : (j k : List ℕ) (ls : List (List ℕ)) → by_bytes j k ≡ Le
 above_inserted j k [] e a = (e, tt)
 above_inserted j k (l ∷ ls) e a = above_put j k l ls (inserted by_bytes k ls) (by_bytes k l) e a (above_inserted j k ls e a.1)
 
-put_rises : (k l : List ℕ) (ls : List (List ℕ)) (o : Ordering) → by_bytes k l ≡ o → Rises (l ∷ ls) → Rises (inserted by_bytes k ls) → Rises (inserted_by by_bytes o k l ls (inserted by_bytes k ls))
+put_rises : (k l : List ℕ) (ls : List (List ℕ)) (o : Ordering) → by_bytes k l ≡ o → Rises (l ∷ ls) → Rises (inserted by_bytes k ls)
+    → Rises (inserted_by by_bytes o k l ls (inserted by_bytes k ls))
 put_rises k l ls Less e r m = ((e, above_less k l ls e r.0), r)
 put_rises k l ls Equal e r m = r
 put_rises k l ls Greater e r m = (above_inserted l k ls (greater k l e) r.0, m)
@@ -62,7 +64,8 @@ ordered_rises (k ∷ ks) = inserted_rises k (in_order by_bytes ks) (ordered_rise
 
 -- who stands in it
 
-put_new : (k l : List ℕ) (ls more : List (List ℕ)) (o : Ordering) → by_bytes k l ≡ o → list_any (same k) more ≡ true → list_any (same k) (inserted_by by_bytes o k l ls more) ≡ true
+put_new : (k l : List ℕ) (ls more : List (List ℕ)) (o : Ordering) → by_bytes k l ≡ o → list_any (same k) more ≡ true
+    → list_any (same k) (inserted_by by_bytes o k l ls more) ≡ true
 put_new k l ls more Less e m = ap (λ b. b || list_any (same k) (l ∷ ls)) ((bytes_eq-Decides k k).1 refl)
 put_new k l ls more Equal e m = ap (λ b. b || list_any (same k) ls) ((bytes_eq-Decides k l).1 (tied k l e))
 put_new k l ls more Greater e m = elim (same k l) as (λ b. (b || list_any (same k) more) ≡ true) [ true ↦ refl | false ↦ m ]
@@ -75,7 +78,8 @@ or_true : (a b : Bool) → b ≡ true → (a || b) ≡ true
 or_true true b e = refl
 or_true false b e = e
 
-put_old : (j k l : List ℕ) (ls more : List (List ℕ)) (o : Ordering) → (list_any (same j) ls ≡ true → list_any (same j) more ≡ true) → list_any (same j) (l ∷ ls) ≡ true → list_any (same j) (inserted_by by_bytes o k l ls more) ≡ true
+put_old : (j k l : List ℕ) (ls more : List (List ℕ)) (o : Ordering) → (list_any (same j) ls ≡ true → list_any (same j) more ≡ true)
+    → list_any (same j) (l ∷ ls) ≡ true → list_any (same j) (inserted_by by_bytes o k l ls more) ≡ true
 put_old j k l ls more Less f h = or_true (same j k) (list_any (same j) (l ∷ ls)) h
 put_old j k l ls more Equal f h = h
 put_old j k l ls more Greater f h = or_part (same j l) (list_any (same j) ls) (list_any (same j) more) f h where
@@ -116,12 +120,14 @@ module _ {A : Type 0} (key : A → List ℕ) where
   still_in k ks x true e f h = absurd (cc)
   still_in k ks x false e f h = ap (λ b. b || list_any (same (key x)) ks) (sym e) ∙ h
 
-  kept_in : (k : List ℕ) (ks : List (List ℕ)) (x : A) (xs : List A) (b : Bool) → others k x ≡ b → IsIn (k ∷ ks) (key x) → AllOf (λ y. IsIn ks (key y)) (filter (others k) xs)
+  kept_in : (k : List ℕ) (ks : List (List ℕ)) (x : A) (xs : List A) (b : Bool) → others k x ≡ b → IsIn (k ∷ ks) (key x)
+      → AllOf (λ y. IsIn ks (key y)) (filter (others k) xs)
       → AllOf (λ y. IsIn ks (key y)) (cond b (x ∷ filter (others k) xs) (filter (others k) xs))
   kept_in k ks x xs true e h m = (still_in k ks x (same (key x) k) refl e h, m)
   kept_in k ks x xs false e h m = m
 
-  others_in : (k : List ℕ) (ks : List (List ℕ)) (xs : List A) → AllOf (λ x. IsIn (k ∷ ks) (key x)) xs → AllOf (λ x. IsIn ks (key x)) (filter (others k) xs)
+  others_in : (k : List ℕ) (ks : List (List ℕ)) (xs : List A) → AllOf (λ x. IsIn (k ∷ ks) (key x)) xs
+      → AllOf (λ x. IsIn ks (key x)) (filter (others k) xs)
   others_in k ks [] h = tt
   others_in k ks (x ∷ xs) h = kept_in k ks x xs (others k x) refl h.0 (others_in k ks xs h.1)
 
@@ -139,11 +145,13 @@ module _ {A : Type 0} (key : A → List ℕ) where
         absurd (let z : true ≡ false = sym t ∙ apart k j e in cc)
 
   same_group : (k j : List ℕ) (xs : List A) → by_bytes k j ≡ Less → group xs j ≡ group (filter (others k) xs) j
-  same_group k j xs e = filter_alike (of_key j) (λ x. others k x && of_key j x) xs (all_every (λ x. of_key j x ≡ (others k x && of_key j x)) xs (λ x. not_other k j x e)) ∙ filter_and (of_key j) (others k) xs
+  same_group k j xs e =
+      filter_alike (of_key j) (λ x. others k x && of_key j x) xs (all_every (λ x. of_key j x ≡ (others k x && of_key j x)) xs (λ x. not_other k j x e)) ∙ filter_and (of_key j) (others k) xs
 
   same_groups : (k : List ℕ) (ks : List (List ℕ)) (xs : List A) → Above k ks → flat_map (group xs) ks ≡ flat_map (group (filter (others k) xs)) ks
   same_groups k [] xs a = refl
-  same_groups k (j ∷ ks) xs a = ap (λ ys. ys ++ flat_map (group xs) ks) (same_group k j xs a.0) ∙ ap (λ ys. group (filter (others k) xs) j ++ ys) (same_groups k ks xs a.1)
+  same_groups k (j ∷ ks) xs a =
+      ap (λ ys. ys ++ flat_map (group xs) ks) (same_group k j xs a.0) ∙ ap (λ ys. group (filter (others k) xs) j ++ ys) (same_groups k ks xs a.1)
 
   pub grouped : (ks : List (List ℕ)) (xs : List A) → Rises ks → AllOf (λ x. IsIn ks (key x)) xs → Moves (flat_map (group xs) ks) xs
   grouped [] xs r h = moves_same [] xs (sym (no_keys xs h))

@@ -36,11 +36,13 @@ pub told_none : (slot : ℕ) → told slot [] ≡ []
 unfolding told
 told_none slot = refl
 
-pub told_cons : (slot : ℕ) (g : ℕ × Answer) (gs : Answers) → (eqb g.0 slot ≡ false → told slot (g ∷ gs) ≡ told slot gs) × (eqb g.0 slot ≡ true → told slot (g ∷ gs) ≡ g.1 ∷ told slot gs)
+pub told_cons : (slot : ℕ) (g : ℕ × Answer) (gs : Answers)
+    → (eqb g.0 slot ≡ false → told slot (g ∷ gs) ≡ told slot gs) × (eqb g.0 slot ≡ true → told slot (g ∷ gs) ≡ g.1 ∷ told slot gs)
 unfolding told
 told_cons slot g gs = ((λ (e : eqb g.0 slot ≡ false). rw e refl), (λ (e : eqb g.0 slot ≡ true). rw e refl))
 
-keep_or : (w l slot : ℕ) (g : ℕ × Answer) (gs : Answers) (b : Bool) → is_in_lane w l g ≡ b → (g.0 ≡ slot → b ≡ true) → told slot (filter (is_in_lane w l) gs) ≡ told slot gs →
+keep_or : (w l slot : ℕ) (g : ℕ × Answer) (gs : Answers) (b : Bool) → is_in_lane w l g ≡ b → (g.0 ≡ slot → b ≡ true)
+    → told slot (filter (is_in_lane w l) gs) ≡ told slot gs →
     told slot (cond b (g ∷ filter (is_in_lane w l) gs) (filter (is_in_lane w l) gs)) ≡ told slot (g ∷ gs)
 keep_or w l slot g gs true e f h =
     elim (eqb_tells g.0 slot) [
@@ -78,7 +80,8 @@ module _ (c : Catalog) (s : Settings) where
   unfolding answers_of_marks
   one_stop = refl
 
-  one_batch : (now : Now) (tables : List (List Row)) (changes : List Change) → answers_of_marks c s (batch now tables changes ∷ []) ≡ answers_by c s now tables (Poll changes)
+  one_batch : (now : Now) (tables : List (List Row)) (changes : List Change)
+      → answers_of_marks c s (batch now tables changes ∷ []) ≡ answers_by c s now tables (Poll changes)
   unfolding answers_of_marks
   one_batch now tables changes = append-nil (answers_by c s now tables (Poll changes))
 
@@ -90,7 +93,8 @@ module _ (c : Catalog) (s : Settings) where
   of_lane_told l slot e gs = ap (told slot) (lane_back l gs) ∙ told_in_lane s.workers l slot e gs
 
   -- the marks of one input
-  marks_told : (l slot : ℕ) → slot % s.workers ≡ l → (now : Now) (tables : List (List Row)) (i : Input) → told slot (answers_of_marks c s (marks_by c s l now tables i)) ≡ told slot (answers_by c s now tables i)
+  marks_told : (l slot : ℕ) → slot % s.workers ≡ l → (now : Now) (tables : List (List Row)) (i : Input)
+      → told slot (answers_of_marks c s (marks_by c s l now tables i)) ≡ told slot (answers_by c s now tables i)
   marks_told l slot e now tables (Poll changes) = ap (told slot) (one_batch now tables changes)
   marks_told l slot e now tables Stop =
       let gs = answers_by c s now tables Stop in
@@ -101,7 +105,8 @@ module _ (c : Catalog) (s : Settings) where
   marks_told l slot e now tables (Gone n) = of_lane_told l slot e (answers_by c s now tables (Gone n))
   marks_told l slot e now tables (Tick m) = of_lane_told l slot e (answers_by c s now tables (Tick m))
 
-  marks_of_told : (l slot : ℕ) → slot % s.workers ≡ l → (before : List Input) (i : Input) → told slot (answers_of_marks c s (marks_of c s l before i)) ≡ told slot (answers c s before i)
+  marks_of_told : (l slot : ℕ) → slot % s.workers ≡ l → (before : List Input) (i : Input)
+      → told slot (answers_of_marks c s (marks_of c s l before i)) ≡ told slot (answers c s before i)
   unfolding marks_of
   marks_of_told l slot e before i = marks_told l slot e (now_of (story c s before)) (tables_left c (story c s before) i) i
 
@@ -122,7 +127,8 @@ module _ (c : Catalog) (s : Settings) where
   answers_none = refl
 
   -- all that a lane is owed gives a slot what is due to it
-  pub lane_told : (l slot : ℕ) → slot % s.workers ≡ l → (journal : List Input) → told slot (answers_of_marks c s (lane_marks c s journal l)) ≡ told slot (all_answers c s journal)
+  pub lane_told : (l slot : ℕ) → slot % s.workers ≡ l → (journal : List Input)
+      → told slot (answers_of_marks c s (lane_marks c s journal l)) ≡ told slot (all_answers c s journal)
   lane_told l slot e [] = ap (told slot) (ap (answers_of_marks c s) (lane_none l) ∙ no_marks ∙ sym answers_none)
   lane_told l slot e (i ∷ before) =
       let marks = marks_of c s l before i in
@@ -132,11 +138,13 @@ module _ (c : Catalog) (s : Settings) where
       ∙ ap (λ xs. told slot (all_answers c s before) ++ xs) (marks_of_told l slot e before i)
       ∙ sym (ap (told slot) (answers_more before i) ∙ told_append slot (all_answers c s before) (answers c s before i))
 
-  pub lane_due : (slot : ℕ) (journal : List Input) → items_for slot (answers_of_marks c s (lane_marks c s journal (slot % s.workers))) ≡ due c s journal slot
+  pub lane_due : (slot : ℕ) (journal : List Input)
+      → items_for slot (answers_of_marks c s (lane_marks c s journal (slot % s.workers))) ≡ due c s journal slot
   lane_due slot journal = ap (spell V1) (lane_told (slot % s.workers) slot refl journal)
 
   -- the first marks give the first items
-  pub items_more : (slot : ℕ) (xs ys : List Mark) → (rest : List Item) × (items_for slot (answers_of_marks c s (xs ++ ys)) ≡ items_for slot (answers_of_marks c s xs) ++ rest)
+  pub items_more : (slot : ℕ) (xs ys : List Mark)
+      → (rest : List Item) × (items_for slot (answers_of_marks c s (xs ++ ys)) ≡ items_for slot (answers_of_marks c s xs) ++ rest)
   items_more slot xs ys =
       let found = spell_more V1 (told slot (answers_of_marks c s xs)) (told slot (answers_of_marks c s ys)) in
       (found.0, ap (spell V1) (ap (told slot) (marks_append xs ys) ∙ told_append slot (answers_of_marks c s xs) (answers_of_marks c s ys)) ∙ found.1)

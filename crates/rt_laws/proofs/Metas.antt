@@ -47,7 +47,8 @@ map_alike : {A B : Type 0} (f g : A → B) (xs : List A) → AllOf (λ x. f x �
 map_alike f g [] e = refl
 map_alike f g (x ∷ xs) e = ap (λ y. y ∷ map f xs) e.0 ∙ ap (λ ys. g x ∷ ys) (map_alike f g xs e.1)
 
-passed : {A : Type 0} (p : A → Bool) (x : A) (xs : List A) (b : Bool) → p x ≡ b → AllOf (λ y. p y ≡ true) (filter p xs) → AllOf (λ y. p y ≡ true) (cond b (x ∷ filter p xs) (filter p xs))
+passed : {A : Type 0} (p : A → Bool) (x : A) (xs : List A) (b : Bool) → p x ≡ b → AllOf (λ y. p y ≡ true) (filter p xs)
+    → AllOf (λ y. p y ≡ true) (cond b (x ∷ filter p xs) (filter p xs))
 passed p x xs true e h = (e, h)
 passed p x xs false e h = h
 
@@ -116,7 +117,8 @@ read_again tracks =
 
 -- references
 
-left_out : (name : List ℕ) (m : Member) (ms : List Member) (b : Bool) → bytes_eq m.name name ≡ b → last_named name ms ≡ None → last_named name (cond (not b) (m ∷ ms) ms) ≡ None
+left_out : (name : List ℕ) (m : Member) (ms : List Member) (b : Bool) → bytes_eq m.name name ≡ b → last_named name ms ≡ None
+    → last_named name (cond (not b) (m ∷ ms) ms) ≡ None
 left_out name m ms true e h = h
 left_out name m ms false e h = ap (λ (o : Option Json). or_else o (cond (bytes_eq m.name name) (Some m.value) None)) h ∙ ap (λ (b : Bool). cond b (Some m.value) None) e
 
@@ -145,7 +147,8 @@ fit_all [] h = tt
 fit_all (t ∷ ts) h = (h.0, fit_all ts h.1)
 
 -- who leaves, as a client reads it
-reads_leave : (leaves : List Track) (t : Track) → Fit leaves → t.reference < 2 ^ 64 → is_among (metas_in (metas_tree leaves)) (shown_meta t) ≡ leaves_in leaves t
+reads_leave : (leaves : List Track) (t : Track) → Fit leaves → t.reference < 2 ^ 64
+    → is_among (metas_in (metas_tree leaves)) (shown_meta t) ≡ leaves_in leaves t
 reads_leave leaves t f lt =
     let p : Held → Bool = λ g. bytes_eq (reference_of g) (reference_of (shown_meta t)) in
     moves_any p (metas_in (metas_tree leaves)) (map shown_meta leaves) (read_again leaves)
@@ -155,7 +158,8 @@ reads_leave leaves t f lt =
     (λ u a. ap (λ (x : List ℕ). bytes_eq x (reference_of (shown_meta t))) (reference_is u) ∙ ap (bytes_eq (decimal u.reference)) (reference_is t) ∙ same_text u.reference t.reference a lt) (fit_all leaves f))
 
 -- one difference
-pub reads_difference : (ch : Channel) (held : List Held) (tracks joins leaves : List Track) → Fit leaves → AllOf (λ (t : Track). t.reference < 2 ^ 64) (tracks ++ joins) → Moves held (map shown_meta tracks)
+pub reads_difference : (ch : Channel) (held : List Held) (tracks joins leaves : List Track) → Fit leaves
+    → AllOf (λ (t : Track). t.reference < 2 ^ 64) (tracks ++ joins) → Moves held (map shown_meta tracks)
     → Moves (after_message held (presence_diff ch joins leaves)) (map shown_meta (filter (λ (t : Track). not (leaves_in leaves t)) (tracks ++ joins)))
 reads_difference ch held tracks joins leaves f all m =
     let ms : List Member = field (codes "joins") (metas_tree joins) ∷ field (codes "leaves") (metas_tree leaves) ∷ [] in
@@ -181,7 +185,8 @@ reads_difference ch held tracks joins leaves f all m =
     (moves_filter (stays ls) (held ++ js) (map shown_meta (tracks ++ joins)) both)
     (moves_same (filter (stays ls) (map shown_meta (tracks ++ joins))) (map shown_meta (filter (λ (t : Track). not (leaves_in leaves t)) (tracks ++ joins))) last))
 
-reads_all : (ch : Channel) (held : List Held) (tracks : List Track) (ds : List Difference) → AllOf (λ (t : Track). t.reference < 2 ^ 64) tracks → AllFit ds → Moves held (map shown_meta tracks)
+reads_all : (ch : Channel) (held : List Held) (tracks : List Track) (ds : List Difference) → AllOf (λ (t : Track). t.reference < 2 ^ 64) tracks
+    → AllFit ds → Moves held (map shown_meta tracks)
     → Moves (client_view held (map (λ (d : Difference). presence_diff ch d.joins d.leaves) ds)) (map shown_meta (after_differences tracks ds))
 reads_all ch held tracks [] a f m = m
 reads_all ch held tracks (d ∷ ds) a f m =

@@ -35,7 +35,8 @@ kept_skip : {A : Type 0} (x : A) (b : Bool) (xs ys : List A) → Moves xs ys →
 kept_skip x true xs ys m = skip x xs ys m
 kept_skip x false xs ys m = m
 
-kept_swap : {A : Type 0} (x y : A) (a b : Bool) (xs : List A) → Moves (cond a (x ∷ cond b (y ∷ xs) xs) (cond b (y ∷ xs) xs)) (cond b (y ∷ cond a (x ∷ xs) xs) (cond a (x ∷ xs) xs))
+kept_swap : {A : Type 0} (x y : A) (a b : Bool) (xs : List A)
+    → Moves (cond a (x ∷ cond b (y ∷ xs) xs) (cond b (y ∷ xs) xs)) (cond b (y ∷ cond a (x ∷ xs) xs) (cond a (x ∷ xs) xs))
 kept_swap x y true true xs = swap x y xs
 kept_swap x y true false xs = none (x ∷ xs)
 kept_swap x y false true xs = none (y ∷ xs)
@@ -60,9 +61,11 @@ moves_left zs xs ys (then_to us vs ws m n) = then_to (us ++ zs) (vs ++ zs) (ws +
 -- an element goes behind a front
 pub moves_middle : {A : Type 0} (x : A) (xs ys : List A) → Moves (x ∷ (xs ++ ys)) (xs ++ x ∷ ys)
 moves_middle x [] ys = none (x ∷ ys)
-moves_middle x (z ∷ xs) ys = then_to (x ∷ z ∷ (xs ++ ys)) (z ∷ x ∷ (xs ++ ys)) (z ∷ (xs ++ x ∷ ys)) (swap x z (xs ++ ys)) (skip z (x ∷ (xs ++ ys)) (xs ++ x ∷ ys) (moves_middle x xs ys))
+moves_middle x (z ∷ xs) ys =
+    then_to (x ∷ z ∷ (xs ++ ys)) (z ∷ x ∷ (xs ++ ys)) (z ∷ (xs ++ x ∷ ys)) (swap x z (xs ++ ys)) (skip z (x ∷ (xs ++ ys)) (xs ++ x ∷ ys) (moves_middle x xs ys))
 
-parted : {A : Type 0} (p : A → Bool) (x : A) (xs fs gs : List A) (b : Bool) → Moves xs (fs ++ gs) → Moves (x ∷ xs) (cond b (x ∷ fs) fs ++ cond (not b) (x ∷ gs) gs)
+parted : {A : Type 0} (p : A → Bool) (x : A) (xs fs gs : List A) (b : Bool) → Moves xs (fs ++ gs)
+    → Moves (x ∷ xs) (cond b (x ∷ fs) fs ++ cond (not b) (x ∷ gs) gs)
 parted p x xs fs gs true m = skip x xs (fs ++ gs) m
 parted p x xs fs gs false m = then_to (x ∷ xs) (x ∷ (fs ++ gs)) (fs ++ x ∷ gs) (skip x xs (fs ++ gs) m) (moves_middle x fs gs)
 

@@ -14,13 +14,15 @@ use Rattle.rt_laws.proofs.Unique.{same_member}
 use Rattle.rt_laws.proofs.Journals.{story_shaped}
 
 module _ (c : Catalog) (s : Settings) where
-  pub numbers_apart : (journal : List Input) (g h : Member) → Contains (members_of_journal c s journal) g → Contains (members_of_journal c s journal) h → g.channel.number ≡ h.channel.number → g ≡ h
+  pub numbers_apart : (journal : List Input) (g h : Member) → Contains (members_of_journal c s journal) g
+      → Contains (members_of_journal c s journal) h → g.channel.number ≡ h.channel.number → g ≡ h
   unfolding now_of
   numbers_apart journal g h a b e =
       let ms = members_in (story c s journal) in
       same_member (story c s journal) g h (story_shaped c s journal) (from_contains ms g a) (from_contains ms h b) e
 
-  pub topics_apart : (journal : List Input) (g h : Member) → Contains (members_of_journal c s journal) g → Contains (members_of_journal c s journal) h → g.channel.slot ≡ h.channel.slot → g.channel.topic ≡ h.channel.topic → g ≡ h
+  pub topics_apart : (journal : List Input) (g h : Member) → Contains (members_of_journal c s journal) g → Contains (members_of_journal c s journal) h
+      → g.channel.slot ≡ h.channel.slot → g.channel.topic ≡ h.channel.topic → g ≡ h
   unfolding now_of
   topics_apart journal g h a b e t =
       let ms = members_in (story c s journal) in

@@ -20,13 +20,15 @@ pub all_map : {A C : Type 0} (B : A → Type 0) (f : C → A) (xs : List C) → 
 all_map B f [] h = tt
 all_map B f (x ∷ xs) h = (h x, all_map B f xs h)
 
-pub all_map_of : {A C : Type 0} (B : A → Type 0) (D : C → Type 0) (f : C → A) (xs : List C) → ((x : C) → D x → B (f x)) → AllOf D xs → AllOf B (map f xs)
+pub all_map_of : {A C : Type 0} (B : A → Type 0) (D : C → Type 0) (f : C → A) (xs : List C) → ((x : C) → D x → B (f x)) → AllOf D xs
+    → AllOf B (map f xs)
 all_map_of B D f [] h a = tt
 all_map_of B D f (x ∷ xs) h a = (h x a.0, all_map_of B D f xs h a.1)
 
 pub all_filter : {A : Type 0} (B : A → Type 0) (p : A → Bool) (xs : List A) → AllOf B xs → AllOf B (filter p xs)
 all_filter B p [] a = tt
-all_filter B p (x ∷ xs) a = elim (p x) as (λ t. AllOf B (cond t (x ∷ filter p xs) (filter p xs))) [ true ↦ (a.0, all_filter B p xs a.1) | false ↦ all_filter B p xs a.1 ]
+all_filter B p (x ∷ xs) a =
+    elim (p x) as (λ t. AllOf B (cond t (x ∷ filter p xs) (filter p xs))) [ true ↦ (a.0, all_filter B p xs a.1) | false ↦ all_filter B p xs a.1 ]
 
 pub all_weaker : {A : Type 0} (B D : A → Type 0) (xs : List A) → ((x : A) → B x → D x) → AllOf B xs → AllOf D xs
 all_weaker B D [] f a = tt
@@ -56,7 +58,8 @@ find_of B p (x ∷ xs) a = elim (p x) as (λ t. Maybe B (cond t (Some x) (find p
 
 pub any_append : {A : Type 0} (p : A → Bool) (xs ys : List A) → list_any p (xs ++ ys) ≡ (list_any p xs || list_any p ys)
 any_append p [] ys = refl
-any_append p (x ∷ xs) ys = elim (p x) as (λ b. (b || list_any p (xs ++ ys)) ≡ ((b || list_any p xs) || list_any p ys)) [ true ↦ refl | false ↦ any_append p xs ys ]
+any_append p (x ∷ xs) ys =
+    elim (p x) as (λ b. (b || list_any p (xs ++ ys)) ≡ ((b || list_any p xs) || list_any p ys)) [ true ↦ refl | false ↦ any_append p xs ys ]
 
 pub any_among : {A : Type 0} (p : A → Bool) (xs : List A) (x : A) → Among xs x → p x ≡ true → list_any p xs ≡ true
 any_among p [] x h e = absurd h

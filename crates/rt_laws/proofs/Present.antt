@@ -18,7 +18,8 @@ use Rattle.rt_laws.proofs.Sound.{members_in}
 use Rattle.rt_laws.proofs.Tracked.{is_present}
 use Rattle.rt_laws.proofs.Journals.{story_shaped}
 
-found_or : {A : Type 0} (p : A → Bool) (x : A) (xs : List A) (b : Bool) → p x ≡ b → (list_any p xs ≡ true → (y : A) × Among xs y × (p y ≡ true)) → (b || list_any p xs) ≡ true → (y : A) × Among (x ∷ xs) y × (p y ≡ true)
+found_or : {A : Type 0} (p : A → Bool) (x : A) (xs : List A) (b : Bool) → p x ≡ b → (list_any p xs ≡ true → (y : A) × Among xs y × (p y ≡ true))
+    → (b || list_any p xs) ≡ true → (y : A) × Among (x ∷ xs) y × (p y ≡ true)
 found_or p x xs true e f h = (x, inl refl, e)
 found_or p x xs false e f h = let r = f h in (r.0, inr r.1, r.2)
 
@@ -44,13 +45,15 @@ module _ (c : Catalog) (s : Settings) where
   story_length [] = refl
   story_length (i ∷ before) = ap suc (story_length before)
 
-  pub track_once : (journal : List Input) (t u : Track) → Contains (tracks_of_journal c s journal) t → Contains (tracks_of_journal c s journal) u → t.channel ≡ u.channel → t ≡ u
+  pub track_once : (journal : List Input) (t u : Track) → Contains (tracks_of_journal c s journal) t → Contains (tracks_of_journal c s journal) u
+      → t.channel ≡ u.channel → t ≡ u
   unfolding now_of
   track_once journal t u a b e =
       let st = story c s journal in
       (is_present st (story_shaped c s journal)).channels t u (from_contains (present_at st) t a) (from_contains (present_at st) u b) e
 
-  pub references_apart : (journal : List Input) (t u : Track) → Contains (tracks_of_journal c s journal) t → Contains (tracks_of_journal c s journal) u → t.reference ≡ u.reference → t ≡ u
+  pub references_apart : (journal : List Input) (t u : Track) → Contains (tracks_of_journal c s journal) t
+      → Contains (tracks_of_journal c s journal) u → t.reference ≡ u.reference → t ≡ u
   unfolding now_of
   references_apart journal t u a b e =
       let st = story c s journal in

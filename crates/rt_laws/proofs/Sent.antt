@@ -35,7 +35,8 @@ first_sent false false false true b5 v f e = absurd (cc)
 first_sent false false false false true v f e = f e
 first_sent false false false false false v f e = refl
 
-pub verdict_when_sent : (c : Catalog) (tables : Tables) (sub : Subscription) (ch : Change) → is_sent (verdict_of c tables sub ch) ≡ true → verdict_of c tables sub ch ≡ sent_verdict c sub.role ch
+pub verdict_when_sent : (c : Catalog) (tables : Tables) (sub : Subscription) (ch : Change) → is_sent (verdict_of c tables sub ch) ≡ true
+    → verdict_of c tables sub ch ≡ sent_verdict c sub.role ch
 unfolding verdict_of
 verdict_when_sent c tables sub ch e =
     first_sent (not (asks_for sub.wanted ch.verb)) (lacks_key ch) (hides_key c sub.role ch) (not (passes_filter sub ch)) (writes ch.verb && is_secured c ch.table) (judged_row c tables sub ch)

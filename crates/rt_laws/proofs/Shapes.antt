@@ -89,8 +89,10 @@ AreApart members = (g h : Member) → Among members g → Among members h → g.
 
 pub data Shape (b : Bool) (n : ℕ) (members : List Member) (ps : List Part) : Type 0 where
   plain : AllOf (Plain b n) ps → Shape b n members ps
-  joining : (front : List Part) (ch : Channel) (back : List Part) → AllOf (Plain b n) front → AllOf (Plain b n) back → ch.number ≡ n → MakesRoom members ch front → ps ≡ front ++ Joins ch ∷ back → Shape b n members ps
-  tracking : (front : List Part) (t : Track) (back : List Part) → AllOf (Quiet b) front → AllOf (Quiet b) back → list_any (λ (h : Member). h.channel.number == t.channel) members ≡ true → t.channel < n
+  joining : (front : List Part) (ch : Channel) (back : List Part) → AllOf (Plain b n) front → AllOf (Plain b n) back → ch.number ≡ n
+      → MakesRoom members ch front → ps ≡ front ++ Joins ch ∷ back → Shape b n members ps
+  tracking : (front : List Part) (t : Track) (back : List Part) → AllOf (Quiet b) front → AllOf (Quiet b) back
+      → list_any (λ (h : Member). h.channel.number == t.channel) members ≡ true → t.channel < n
       → IsOfMember n members t → ps ≡ front ++ Tracks t ∷ back → Shape b n members ps
 
 pub eqb_same : (n : ℕ) → (n == n) ≡ true
@@ -103,7 +105,8 @@ or_left : (x y : Bool) → x ≡ true → (x || y) ≡ true
 or_left true y e = refl
 or_left false y e = absurd (cc)
 
-find_case : {A : Type 0} (p : A → Bool) (x : A) (xs : List A) (y : A) (b : Bool) → p x ≡ b → p y ≡ true → Among (x ∷ xs) y → (Among xs y → (f : A) × (find p xs ≡ Some f) × Among xs f × (p f ≡ true))
+find_case : {A : Type 0} (p : A → Bool) (x : A) (xs : List A) (y : A) (b : Bool) → p x ≡ b → p y ≡ true → Among (x ∷ xs) y
+    → (Among xs y → (f : A) × (find p xs ≡ Some f) × Among xs f × (p f ≡ true))
     → (f : A) × (cond b (Some x) (find p xs) ≡ Some f) × Among (x ∷ xs) f × (p f ≡ true)
 find_case p x xs y true e k h g = (x, refl, inl refl, e)
 find_case p x xs y false e k (inl i) g = absurd (let z : false ≡ true = sym e ∙ ap p i ∙ k in cc)
@@ -118,7 +121,8 @@ option_all : {A : Type 0} (B : A → Type 0) (o : Option A) → Maybe B o → Al
 option_all B None h = tt
 option_all B (Some x) h = (h, tt)
 
-plain_turn : {A : Type 0} (n : ℕ) (act : List ℕ → A → List Part) (B : A → Type 0) → ((gone : List ℕ) (x : A) → B x → AllOf (Plain true n) (act gone x))
+plain_turn : {A : Type 0} (n : ℕ) (act : List ℕ → A → List Part) (B : A → Type 0)
+    → ((gone : List ℕ) (x : A) → B x → AllOf (Plain true n) (act gone x))
     → (gone : List ℕ) (xs : List A) → AllOf B xs → AllOf (Plain true n) (in_turn act gone xs)
 plain_turn n act B f gone [] a = tt
 plain_turn n act B f gone (x ∷ xs) a =
@@ -171,7 +175,8 @@ abbrev pub IsMade : ℕ → ℕ → List ℕ → Checked Channel → Type 0
 IsMade n slot topic (Ok ch) = (ch.number ≡ n) × (ch.slot ≡ slot) × (ch.topic ≡ topic)
 IsMade n slot topic (Err why) = ⊤
 
-made_by : {A : Type 0} (n slot : ℕ) (topic : List ℕ) (r : Checked A) (f : A → Checked Channel) → ((x : A) → IsMade n slot topic (f x)) → IsMade n slot topic (r >> f)
+made_by : {A : Type 0} (n slot : ℕ) (topic : List ℕ) (r : Checked A) (f : A → Checked Channel) → ((x : A) → IsMade n slot topic (f x))
+    → IsMade n slot topic (r >> f)
 made_by n slot topic (Ok x) f h = h x
 made_by n slot topic (Err why) f h = tt
 
@@ -204,7 +209,8 @@ module _ (now : Now) (a : AllOf (Below now.number) now.members) (apart : AreApar
       ]
 
   plain_ticks : (moment : ℕ) (xs : List (ℕ × Option Opening)) → AllOf (Plain true now.number) (in_turn (tick_parts now moment) [] xs)
-  plain_ticks moment xs = plain_turn now.number (tick_parts now moment) (λ x. ⊤) (λ g x t. plain_tick moment g x) [] xs (all_every (λ x. ⊤) xs (λ x. tt))
+  plain_ticks moment xs =
+      plain_turn now.number (tick_parts now moment) (λ x. ⊤) (λ g x t. plain_tick moment g x) [] xs (all_every (λ x. ⊤) xs (λ x. tt))
 
   plain_stop : (x : ℕ × Option Opening) → AllOf (Plain true now.number) (stop_parts now x)
   plain_stop (slot, None) = tt
@@ -224,13 +230,15 @@ module _ (now : Now) (a : AllOf (Below now.number) now.members) (apart : AreApar
   by_case false x y f g = g
 
   found : (slot : ℕ) (topic : List ℕ) → Maybe (Among now.members) (channel_on now slot topic)
-  found slot topic = find_of (Among now.members) (λ m. is_on topic m.channel) (channels_of now slot) (all_filter (Among now.members) (is_of_slot slot) now.members (all_themselves now.members))
+  found slot topic =
+      find_of (Among now.members) (λ m. is_on topic m.channel) (channels_of now slot) (all_filter (Among now.members) (is_of_slot slot) now.members (all_themselves now.members))
 
   found_below : (slot : ℕ) (topic : List ℕ) → Maybe (Below now.number) (channel_on now slot topic)
   found_below slot topic = find_of (Below now.number) (λ m. is_on topic m.channel) (channels_of now slot) (channels_below slot)
 
   -- the channel of the slot on a topic is the one that is found
-  found_one : (slot : ℕ) (topic : List ℕ) (h : Member) → Among now.members h → h.channel.slot ≡ slot → h.channel.topic ≡ topic → channel_on now slot topic ≡ Some h
+  found_one : (slot : ℕ) (topic : List ℕ) (h : Member) → Among now.members h → h.channel.slot ≡ slot → h.channel.topic ≡ topic
+      → channel_on now slot topic ≡ Some h
   found_one slot topic h here e t =
       let test : Member → Bool = λ m. is_on topic m.channel in
       let own : is_of_slot slot h ≡ true = ap (λ n. n == slot) e ∙ eqb_same slot in
@@ -244,12 +252,15 @@ module _ (now : Now) (a : AllOf (Below now.number) now.members) (apart : AreApar
   abbrev closes : Option Member → List Part
   closes o = in_turn (close now) [] (option_to_list o)
 
-  pub room : (slot : ℕ) (topic : List ℕ) (h : Member) → Among now.members h → h.channel.slot ≡ slot → h.channel.topic ≡ topic → has h.channel.number (departed_in (closes (channel_on now slot topic))) ≡ true
+  pub room : (slot : ℕ) (topic : List ℕ) (h : Member) → Among now.members h → h.channel.slot ≡ slot → h.channel.topic ≡ topic
+      → has h.channel.number (departed_in (closes (channel_on now slot topic))) ≡ true
   room slot topic h here e t =
       ap (λ (o : Option Member). has h.channel.number (departed_in (closes o))) (found_one slot topic h here e t)
       ∙ or_left (h.channel.number == h.channel.number) _ (eqb_same h.channel.number)
 
-  shape_result : (slot : ℕ) (gone : List ℕ) (m : Message) (front : List Part) (r : Checked Channel) → AllOf (Plain true now.number) front → IsMade now.number slot m.topic r → ((h : Member) → Among now.members h → h.channel.slot ≡ slot → h.channel.topic ≡ m.topic → has h.channel.number (departed_in front) ≡ true)
+  shape_result : (slot : ℕ) (gone : List ℕ) (m : Message) (front : List Part) (r : Checked Channel) → AllOf (Plain true now.number) front
+      → IsMade now.number slot m.topic r
+      → ((h : Member) → Among now.members h → h.channel.slot ≡ slot → h.channel.topic ≡ m.topic → has h.channel.number (departed_in front) ≡ true)
       → Shaped (front ++ join_result_parts now slot gone m r)
   shape_result slot gone m front (Ok ch) f n room =
       let ok = reply_ok ch.join_ref m (joined_response ch) in
@@ -258,7 +269,8 @@ module _ (now : Now) (a : AllOf (Below now.number) now.members) (apart : AreApar
       joining front ch (tell ch.slot ok ++ subscribed ++ state) f
       (refl, all_append (Plain true now.number) subscribed state (plain_tell_if now.number (has_bindings ch) ch.slot (subscribed_message ch) refl) (plain_tell_if now.number ch.presence ch.slot (presence_state ch (present_on now gone ch.topic)) refl))
       n.0 (λ h i e t. room h i (e ∙ n.1) (t ∙ n.2)) refl
-  shape_result slot gone m front (Err why) f n room = plain (all_append (Plain true now.number) front (tell slot (reply_error m.join_ref m why)) f (refl, tt))
+  shape_result slot gone m front (Err why) f n room =
+      plain (all_append (Plain true now.number) front (tell slot (reply_error m.join_ref m why)) f (refl, tt))
 
   module _ (c : Catalog) (s : Settings) where
     pub join_made : (slot : ℕ) (o : Opening) (others : ℕ) (m : Message) → IsMade now.number slot m.topic (channel_of_join c s now slot o others m)
@@ -302,7 +314,8 @@ module _ (now : Now) (a : AllOf (Below now.number) now.members) (apart : AreApar
     shape_ask : (o : Opening) (h : Member) (m : Message) (k : Ask) → Among now.members h → Shaped (ask_parts c s now o h m k)
     shape_ask o h m leave here = plain (refl, plain_close now.number now [] h (all_among (Below now.number) now.members h a here))
     shape_ask o h m (renew None) here = plain tt
-    shape_ask o h m (renew (Some token)) here = plain (plain_renewal now.number now h (renewal_of c s now o h.channel token) (all_among (Below now.number) now.members h a here))
+    shape_ask o h m (renew (Some token)) here =
+        plain (plain_renewal now.number now h (renewal_of c s now o h.channel token) (all_among (Below now.number) now.members h a here))
     shape_ask o h m ask.broadcast here = plain (plain_broadcast now.number now h.channel m)
     shape_ask o h m (track tree) here =
         let t = track_by now h.channel tree in
@@ -314,7 +327,8 @@ module _ (now : Now) (a : AllOf (Below now.number) now.members) (apart : AreApar
     shape_ask o h m unknown_presence here = plain (refl, tt)
     shape_ask o h m nothing here = plain tt
 
-    shape_channel : (slot : ℕ) (o : Opening) (m : Message) (h : Option Member) → Maybe (Among now.members) h → Shaped (channel_parts c s now slot o m h)
+    shape_channel : (slot : ℕ) (o : Opening) (m : Message) (h : Option Member) → Maybe (Among now.members) h
+        → Shaped (channel_parts c s now slot o m h)
     shape_channel slot o m None here = plain (refl, tt)
     shape_channel slot o m (Some h) here =
         by_case (is_shut h.channel m) (tell slot (reply_error h.channel.join_ref m (codes "presence disabled"))) (ask_parts c s now o h m (ask_of m)) (plain (refl, tt)) (shape_ask o h m (ask_of m) here)
@@ -334,7 +348,8 @@ module _ (now : Now) (a : AllOf (Below now.number) now.members) (apart : AreApar
     plain_change to ch [] = tt
     plain_change to ch (sub ∷ more) = (tt, tt)
 
-    plain_change_all : (subs : List Subscription) (tables : List (List Row)) (views : List ChannelView) (ch : Change) → AllOf (Plain false now.number) (change_parts_to_all c s subs tables views ch)
+    plain_change_all : (subs : List Subscription) (tables : List (List Row)) (views : List ChannelView) (ch : Change)
+        → AllOf (Plain false now.number) (change_parts_to_all c s subs tables views ch)
     plain_change_all subs tables views ch =
         elim (is_truncate ch.verb) as (λ t. AllOf (Plain false now.number) (elim t [ true ↦ [] | false ↦ flat_map (change_parts_to c s subs tables ch) views ])) [
           | true ↦ tt

@@ -47,7 +47,8 @@ plain_renews b n m (Opens s o ∷ ps) le h = plain_renews b n m ps le h.1
 plain_renews b n m (Ends s e ∷ ps) le h = plain_renews b n m ps le h.1
 plain_renews b n m (Tells s e ∷ ps) le h = plain_renews b n m ps le h.1
 plain_renews b n m (Joins c ∷ ps) le h = absurd h.0
-plain_renews b n m (Renews k r c ∷ ps) le h = let lt = h.0 in let e : eqb k m ≡ false = grind (arith, nat_tests) in rw e (plain_renews b n m ps le h.1)
+plain_renews b n m (Renews k r c ∷ ps) le h =
+    let lt = h.0 in let e : eqb k m ≡ false = grind (arith, nat_tests) in rw e (plain_renews b n m ps le h.1)
 plain_renews b n m (Tracks t ∷ ps) le h = absurd h.0
 plain_renews b n m (Untracks k ∷ ps) le h = plain_renews b n m ps le h.1
 plain_renews b n m (Departs k ∷ ps) le h = plain_renews b n m ps le h.1
@@ -101,34 +102,45 @@ quiet_tracks b (Departs k ∷ ps) h = absurd h.0
 has_append : (m : ℕ) (ps qs : List Part) → has m (departed_in (ps ++ qs)) ≡ (has m (departed_in ps) || has m (departed_in qs))
 has_append m ps qs = ap (has m) (filter_map-append departed_by ps qs) ∙ any_append (λ j. j == m) (departed_in ps) (departed_in qs)
 
-around_has : (b : Bool) (n m : ℕ) (front : List Part) (p : Part) (back : List Part) → n ≤ m → AllOf (Plain b n) front → AllOf (Plain b n) back → departed_in (p ∷ back) ≡ departed_in back → has m (departed_in (front ++ p ∷ back)) ≡ false
+around_has : (b : Bool) (n m : ℕ) (front : List Part) (p : Part) (back : List Part) → n ≤ m → AllOf (Plain b n) front → AllOf (Plain b n) back
+    → departed_in (p ∷ back) ≡ departed_in back → has m (departed_in (front ++ p ∷ back)) ≡ false
 around_has b n m front p back le f g e =
-    has_append m front (p ∷ back) ∙ ap (λ t. t || has m (departed_in (p ∷ back))) (plain_has b n m front le f) ∙ ap (has m) e ∙ plain_has b n m back le g
+    has_append m front (p ∷ back) ∙ ap (λ t. t || has m (departed_in (p ∷ back))) (plain_has b n m front le f) ∙ ap (has m) e
+    ∙ plain_has b n m back le g
 
-around_renews : (b : Bool) (n m : ℕ) (front : List Part) (p : Part) (back : List Part) → n ≤ m → AllOf (Plain b n) front → AllOf (Plain b n) back → filter_map (renewed_by m) (p ∷ back) ≡ filter_map (renewed_by m) back
+around_renews : (b : Bool) (n m : ℕ) (front : List Part) (p : Part) (back : List Part) → n ≤ m → AllOf (Plain b n) front → AllOf (Plain b n) back
+    → filter_map (renewed_by m) (p ∷ back) ≡ filter_map (renewed_by m) back
     → filter_map (renewed_by m) (front ++ p ∷ back) ≡ []
 around_renews b n m front p back le f g e =
-    filter_map-append (renewed_by m) front (p ∷ back) ∙ ap (λ xs. xs ++ filter_map (renewed_by m) (p ∷ back)) (plain_renews b n m front le f) ∙ e ∙ plain_renews b n m back le g
+    filter_map-append (renewed_by m) front (p ∷ back) ∙ ap (λ xs. xs ++ filter_map (renewed_by m) (p ∷ back)) (plain_renews b n m front le f) ∙ e
+    ∙ plain_renews b n m back le g
 
 shape_has : (b : Bool) (n m : ℕ) (hs : List Member) (ps : List Part) → n ≤ m → Shape b n hs ps → has m (departed_in ps) ≡ false
 shape_has b n m hs ps le (plain h) = plain_has b n m ps le h
-shape_has b n m hs ps le (joining front ch back f g k room e) = ap (λ qs. has m (departed_in qs)) e ∙ around_has b n m front (Joins ch) back le f g refl
-shape_has b n m hs ps le (tracking front t back f g k lt own e) = ap (λ qs. has m (departed_in qs)) e ∙ around_has b n m front (Tracks t) back le (quiet_front b n front f) (quiet_front b n back g) refl
+shape_has b n m hs ps le (joining front ch back f g k room e) =
+    ap (λ qs. has m (departed_in qs)) e ∙ around_has b n m front (Joins ch) back le f g refl
+shape_has b n m hs ps le (tracking front t back f g k lt own e) =
+    ap (λ qs. has m (departed_in qs)) e ∙ around_has b n m front (Tracks t) back le (quiet_front b n front f) (quiet_front b n back g) refl
 
 shape_renews : (b : Bool) (n m : ℕ) (hs : List Member) (ps : List Part) → n ≤ m → Shape b n hs ps → filter_map (renewed_by m) ps ≡ []
 shape_renews b n m hs ps le (plain h) = plain_renews b n m ps le h
-shape_renews b n m hs ps le (joining front ch back f g k room e) = ap (filter_map (renewed_by m)) e ∙ around_renews b n m front (Joins ch) back le f g refl
-shape_renews b n m hs ps le (tracking front t back f g k lt own e) = ap (filter_map (renewed_by m)) e ∙ around_renews b n m front (Tracks t) back le (quiet_front b n front f) (quiet_front b n back g) refl
+shape_renews b n m hs ps le (joining front ch back f g k room e) =
+    ap (filter_map (renewed_by m)) e ∙ around_renews b n m front (Joins ch) back le f g refl
+shape_renews b n m hs ps le (tracking front t back f g k lt own e) =
+    ap (filter_map (renewed_by m)) e ∙ around_renews b n m front (Tracks t) back le (quiet_front b n front f) (quiet_front b n back g) refl
 
-around_joins : (b : Bool) (n : ℕ) (front : List Part) (p : Part) (back : List Part) → AllOf (Plain b n) front → AllOf (Plain b n) back → joins_of (front ++ p ∷ back) ≡ joins_of (p ∷ [])
+around_joins : (b : Bool) (n : ℕ) (front : List Part) (p : Part) (back : List Part) → AllOf (Plain b n) front → AllOf (Plain b n) back
+    → joins_of (front ++ p ∷ back) ≡ joins_of (p ∷ [])
 around_joins b n front p back f g =
     filter_map-append joined_by front (p ∷ back) ∙ ap (λ xs. xs ++ joins_of (p ∷ back)) (plain_joins b n front f)
     ∙ filter_map-append joined_by (p ∷ []) back ∙ ap (λ xs. joins_of (p ∷ []) ++ xs) (plain_joins b n back g) ∙ append-nil (joins_of (p ∷ []))
 
-shape_joins : (b : Bool) (n : ℕ) (hs : List Member) (ps : List Part) → Shape b n hs ps → (joins_of ps ≡ []) ⊎ ((ch : Channel) × (joins_of ps ≡ ch ∷ []) × (ch.number ≡ n))
+shape_joins : (b : Bool) (n : ℕ) (hs : List Member) (ps : List Part) → Shape b n hs ps
+    → (joins_of ps ≡ []) ⊎ ((ch : Channel) × (joins_of ps ≡ ch ∷ []) × (ch.number ≡ n))
 shape_joins b n hs ps (plain h) = inl (plain_joins b n ps h)
 shape_joins b n hs ps (joining front ch back f g k room e) = inr (ch, ap joins_of e ∙ around_joins b n front (Joins ch) back f g, k)
-shape_joins b n hs ps (tracking front t back f g k lt own e) = inl (ap joins_of e ∙ around_joins b n front (Tracks t) back (quiet_front b n front f) (quiet_front b n back g))
+shape_joins b n hs ps (tracking front t back f g k lt own e) =
+    inl (ap joins_of e ∙ around_joins b n front (Tracks t) back (quiet_front b n front f) (quiet_front b n back g))
 
 -- either nothing new stands, or one track of a member, and nobody departs or joins
 pub shape_tracks : (b : Bool) (n : ℕ) (hs : List Member) (ps : List Part) → Shape b n hs ps
@@ -140,8 +152,10 @@ shape_tracks b n hs ps (joining front ch back f g k room e) =
 shape_tracks b n hs ps (tracking front t back f g k lt own e) =
     inr (
       t,
-      ap tracks_in e ∙ flat_map-append tracked_by front (Tracks t ∷ back) ∙ ap (λ xs. xs ++ (t.channel, Some t) ∷ tracks_in back) (quiet_tracks b front f) ∙ ap (λ xs. (t.channel, Some t) ∷ xs) (quiet_tracks b back g),
-      ap departed_in e ∙ filter_map-append departed_by front (Tracks t ∷ back) ∙ ap (λ xs. xs ++ departed_in back) (quiet_departs b front f) ∙ quiet_departs b back g,
+      ap tracks_in e ∙ flat_map-append tracked_by front (Tracks t ∷ back)
+          ∙ ap (λ xs. xs ++ (t.channel, Some t) ∷ tracks_in back) (quiet_tracks b front f) ∙ ap (λ xs. (t.channel, Some t) ∷ xs) (quiet_tracks b back g),
+      ap departed_in e ∙ filter_map-append departed_by front (Tracks t ∷ back) ∙ ap (λ xs. xs ++ departed_in back) (quiet_departs b front f)
+          ∙ quiet_departs b back g,
       k,
       lt,
       own,
@@ -160,15 +174,18 @@ unfolding departed
 shaped_has [] m le h = refl
 shaped_has (l ∷ before) m le h =
     any_append (λ j. j == m) (departed_in l.parts) (departed before)
-    ∙ ap (λ t. t || has m (departed before)) (shape_has (fine_for l.input) (length before) m (members_in before) l.parts (omega arith) h.0) ∙ shaped_has before m (omega arith) h.1
+    ∙ ap (λ t. t || has m (departed before)) (shape_has (fine_for l.input) (length before) m (members_in before) l.parts (omega arith) h.0)
+    ∙ shaped_has before m (omega arith) h.1
 
-shaped_claims : (st : Story) (ch : Channel) → length st ≤ ch.number → Shaped st → flat_map (λ (k : Line). filter_map (renewed_by ch.number) k.parts) st ≡ []
+shaped_claims : (st : Story) (ch : Channel) → length st ≤ ch.number → Shaped st
+    → flat_map (λ (k : Line). filter_map (renewed_by ch.number) k.parts) st ≡ []
 shaped_claims [] ch le h = refl
 shaped_claims (l ∷ before) ch le h =
     ap (λ xs. xs ++ flat_map (λ (k : Line). filter_map (renewed_by ch.number) k.parts) before) (shape_renews (fine_for l.input) (length before) ch.number (members_in before) l.parts (omega arith) h.0)
     ∙ shaped_claims before ch (omega arith) h.1
 
-claims_first : (st : Story) (ch : Channel) → flat_map (λ (k : Line). filter_map (renewed_by ch.number) k.parts) st ≡ [] → claims_at st ch ≡ standing_of ch
+claims_first : (st : Story) (ch : Channel) → flat_map (λ (k : Line). filter_map (renewed_by ch.number) k.parts) st ≡ []
+    → claims_at st ch ≡ standing_of ch
 unfolding claims_at
 claims_first st ch e = ap (first_or (standing_of ch)) e
 
@@ -176,9 +193,11 @@ has_line : (l : Line) (before : Story) (m : ℕ) → length before ≤ m → Sha
 unfolding departed
 has_line l before m le h =
     any_append (λ j. j == m) (departed_in l.parts) (departed before)
-    ∙ ap (λ t. t || has m (departed before)) (shape_has (fine_for l.input) (length before) m (members_in before) l.parts le h.0) ∙ shaped_has before m le h.1
+    ∙ ap (λ t. t || has m (departed before)) (shape_has (fine_for l.input) (length before) m (members_in before) l.parts le h.0)
+    ∙ shaped_has before m le h.1
 
-claims_line : (l : Line) (before : Story) (ch : Channel) → length before ≤ ch.number → Shaped (l ∷ before) → claims_at (l ∷ before) ch ≡ standing_of ch
+claims_line : (l : Line) (before : Story) (ch : Channel) → length before ≤ ch.number → Shaped (l ∷ before)
+    → claims_at (l ∷ before) ch ≡ standing_of ch
 claims_line l before ch le h =
     claims_first (l ∷ before) ch
     (ap (λ xs. xs ++ flat_map (λ (k : Line). filter_map (renewed_by ch.number) k.parts) before) (shape_renews (fine_for l.input) (length before) ch.number (members_in before) l.parts le h.0) ∙ shaped_claims before ch le h.1)
@@ -207,7 +226,8 @@ joins_well l before h =
           subst P (sym j.1) here
     ]
 
-pub members_more : (l : Line) (before : Story) → Shaped (l ∷ before) → members_at (l ∷ before) ≡ filter (remains_by l.parts) (members_at before) ++ joins_of l.parts
+pub members_more : (l : Line) (before : Story) → Shaped (l ∷ before)
+    → members_at (l ∷ before) ≡ filter (remains_by l.parts) (members_at before) ++ joins_of l.parts
 members_more l before h = let w = joins_well l before h in members_grow l before w.one w.stays
 
 -- channels and their numbers
@@ -269,7 +289,8 @@ all_tagged (l ∷ before) =
     let P : List (ℕ × Option Track) → Type 0 = AllOf Tagged in
     subst P (sym (all_tracks_more l before)) (all_append Tagged (all_tracks before) (tracks_in l.parts) (all_tagged before) (tagged_parts l.parts))
 
-plain_track_below : (b : Bool) (n m : ℕ) (ps qs : List Part) → AllOf (Plain b n) ps → AllOf (TrackBelow m) (tracks_in qs) → AllOf (TrackBelow m) (tracks_in (ps ++ qs))
+plain_track_below : (b : Bool) (n m : ℕ) (ps qs : List Part) → AllOf (Plain b n) ps → AllOf (TrackBelow m) (tracks_in qs)
+    → AllOf (TrackBelow m) (tracks_in (ps ++ qs))
 plain_track_below b n m [] qs h g = g
 plain_track_below b n m (Opens s o ∷ ps) qs h g = plain_track_below b n m ps qs h.1 g
 plain_track_below b n m (Ends s e ∷ ps) qs h g = plain_track_below b n m ps qs h.1 g
@@ -324,16 +345,20 @@ and_false : (a : Bool) → (a && false) ≡ false
 and_false true = refl
 and_false false = refl
 
-kept_any : (k : ℕ) (ds : List ℕ) (ch : Channel) (cs fs : List Channel) (d : Bool) → has k ds ≡ d → ((ch.number == k) ≡ true) × (ch.number ≡ k) → list_any (λ (x : Channel). x.number == k) fs ≡ (list_any (λ (x : Channel). x.number == k) cs && not (has k ds))
+kept_any : (k : ℕ) (ds : List ℕ) (ch : Channel) (cs fs : List Channel) (d : Bool) → has k ds ≡ d → ((ch.number == k) ≡ true) × (ch.number ≡ k)
+    → list_any (λ (x : Channel). x.number == k) fs ≡ (list_any (λ (x : Channel). x.number == k) cs && not (has k ds))
     → list_any (λ (x : Channel). x.number == k) (cond (not d) (ch ∷ fs) fs) ≡ ((true || list_any (λ (x : Channel). x.number == k) cs) && not d)
-kept_any k ds ch cs fs true e t h = h ∙ ap (λ b. list_any (λ (x : Channel). x.number == k) cs && not b) e ∙ and_false (list_any (λ (x : Channel). x.number == k) cs)
+kept_any k ds ch cs fs true e t h =
+    h ∙ ap (λ b. list_any (λ (x : Channel). x.number == k) cs && not b) e ∙ and_false (list_any (λ (x : Channel). x.number == k) cs)
 kept_any k ds ch cs fs false e t h = ap (λ b. b || list_any (λ (x : Channel). x.number == k) fs) t.0
 
-skipped_any : (k : ℕ) (ch : Channel) (fs : List Channel) (b : Bool) → (ch.number == k) ≡ false → list_any (λ (x : Channel). x.number == k) (cond b (ch ∷ fs) fs) ≡ list_any (λ (x : Channel). x.number == k) fs
+skipped_any : (k : ℕ) (ch : Channel) (fs : List Channel) (b : Bool) → (ch.number == k) ≡ false
+    → list_any (λ (x : Channel). x.number == k) (cond b (ch ∷ fs) fs) ≡ list_any (λ (x : Channel). x.number == k) fs
 skipped_any k ch fs true e = ap (λ b. b || list_any (λ (x : Channel). x.number == k) fs) e
 skipped_any k ch fs false e = refl
 
-any_kept : (k : ℕ) (ds : List ℕ) (cs : List Channel) → list_any (λ (x : Channel). x.number == k) (filter (λ (x : Channel). not (has x.number ds)) cs) ≡ (list_any (λ (x : Channel). x.number == k) cs && not (has k ds))
+any_kept : (k : ℕ) (ds : List ℕ) (cs : List Channel)
+    → list_any (λ (x : Channel). x.number == k) (filter (λ (x : Channel). not (has x.number ds)) cs) ≡ (list_any (λ (x : Channel). x.number == k) cs && not (has k ds))
 any_kept k ds [] = refl
 any_kept k ds (ch ∷ cs) =
     let any : List Channel → Bool = list_any (λ (x : Channel). x.number == k) in
@@ -352,7 +377,8 @@ none_of : (k n : ℕ) (js : List Channel) → k < n → AllOf (λ (ch : Channel)
 none_of k n [] lt a = refl
 none_of k n (ch ∷ js) lt a = let e = a.0 in let t : eqb ch.number k ≡ false = grind (arith, nat_tests) in ap (λ b. b || list_any (λ (x : Channel). x.number == k) js) t ∙ none_of k n js lt a.1
 
-pub held_grows : (l : Line) (before : Story) (t : Track) → Shaped (l ∷ before) → t.channel < length before → is_held (l ∷ before) t ≡ (is_held before t && not (has t.channel (departed_in l.parts)))
+pub held_grows : (l : Line) (before : Story) (t : Track) → Shaped (l ∷ before) → t.channel < length before
+    → is_held (l ∷ before) t ≡ (is_held before t && not (has t.channel (departed_in l.parts)))
 held_grows l before t h lt =
     let any : List Channel → Bool = list_any (λ (x : Channel). x.number == t.channel) in
     let w = joins_well l before h in
@@ -367,14 +393,16 @@ any_map : {A B : Type 0} (p : B → Bool) (f : A → B) (xs : List A) → list_a
 any_map p f [] = refl
 any_map p f (x ∷ xs) = ap (λ b. p (f x) || b) (any_map p f xs)
 
-new_stands : (l : Line) (before : Story) → Shaped (l ∷ before) → filter (is_held (l ∷ before)) (standing_tracks (tracks_in l.parts)) ≡ standing_tracks (tracks_in l.parts)
+new_stands : (l : Line) (before : Story) → Shaped (l ∷ before)
+    → filter (is_held (l ∷ before)) (standing_tracks (tracks_in l.parts)) ≡ standing_tracks (tracks_in l.parts)
 new_stands l before h =
     let P : List Track → Type 0 = λ ts. filter (is_held (l ∷ before)) ts ≡ ts in
     elim (shape_tracks (fine_for l.input) (length before) (members_in before) l.parts h.0) [
       | inl e ↦ subst P (sym e) refl
       | inr r ↦
           let t = r.0 in
-          let member : is_held before t ≡ true = sym (any_map (λ (m : Member). m.channel.number == t.channel) (member_in before) (members_at before)) ∙ r.3 in
+          let member : is_held before t ≡ true =
+          sym (any_map (λ (m : Member). m.channel.number == t.channel) (member_in before) (members_at before)) ∙ r.3 in
           let held : is_held (l ∷ before) t ≡ true =
           held_grows l before t h r.4 ∙ ap (λ b. b && not (has t.channel (departed_in l.parts))) member ∙ ap (λ ds. not (has t.channel ds)) r.2 in
           let Q : List (ℕ × Option Track) → Type 0 = λ xs. filter (is_held (l ∷ before)) (standing_tracks xs) ≡ standing_tracks xs in
@@ -389,7 +417,8 @@ shape_sound l before h =
       stays = w.stays;
       claims = w.claims;
       tagged = all_tagged before;
-      old = all_weaker (λ t. t.channel < length before) (λ t. is_held (l ∷ before) t ≡ (is_held before t && not (has t.channel (departed_in l.parts)))) (standing_tracks (all_tracks before))
+      old =
+          all_weaker (λ t. t.channel < length before) (λ t. is_held (l ∷ before) t ≡ (is_held before t && not (has t.channel (departed_in l.parts)))) (standing_tracks (all_tracks before))
           (λ t lt. held_grows l before t h lt) (standing_below (length before) (all_tracks before) (tracks_below before h.1));
       new = new_stands l before h;
     }
@@ -419,15 +448,18 @@ one_of (j ∷ k ∷ more) (inl one) x y a b = absurd (omega arith)
 one_of (j ∷ k ∷ more) (inr one) x y a b = absurd (omega arith)
 
 -- who stays and who joins aren't on one topic of a slot
-old_new : (l : Line) (before : Story) (x y : Channel) → Shaped (l ∷ before) → Among (filter (remains_by l.parts) (members_at before)) x → Among (joins_of l.parts) y → x.slot ≡ y.slot → x.topic ≡ y.topic → ⊥
+old_new : (l : Line) (before : Story) (x y : Channel) → Shaped (l ∷ before) → Among (filter (remains_by l.parts) (members_at before)) x
+    → Among (joins_of l.parts) y → x.slot ≡ y.slot → x.topic ≡ y.topic → ⊥
 old_new l before x y h a b sl tp =
     let f = among_filter (remains_by l.parts) (members_at before) x a in
-    let room = all_among (λ (ch : Channel). MakesRoom (members_in before) ch l.parts) (joins_of l.parts) y (shape_room (fine_for l.input) (length before) (members_in before) l.parts h.0) b in
+    let room =
+    all_among (λ (ch : Channel). MakesRoom (members_in before) ch l.parts) (joins_of l.parts) y (shape_room (fine_for l.input) (length before) (members_in before) l.parts h.0) b in
     let gone : has x.number (departed_in l.parts) ≡ true = room (member_in before x) (map_among (member_in before) (members_at before) x f.0) sl tp in
     let stays : not (has x.number (departed_in l.parts)) ≡ true = f.1 in
     let z : not true ≡ true = sym (ap not gone) ∙ stays in absurd (cc)
 
-apart_more : (l : Line) (before : Story) → Shaped (l ∷ before) → ChannelsApart (members_at before) → ChannelsApart (filter (remains_by l.parts) (members_at before) ++ joins_of l.parts)
+apart_more : (l : Line) (before : Story) → Shaped (l ∷ before) → ChannelsApart (members_at before)
+    → ChannelsApart (filter (remains_by l.parts) (members_at before) ++ joins_of l.parts)
 apart_more l before h ap_old x y a b sl tp =
     let old = filter (remains_by l.parts) (members_at before) in
     let js = joins_of l.parts in

@@ -25,7 +25,8 @@ apart_one key z x y (inl a) (inl b) e = sym a ∙ b
 apart_one key z x y (inl a) (inr b) e = absurd b
 apart_one key z x y (inr a) b e = absurd a
 
-apart_append : {A : Type 0} (key : A → ℕ) (xs ys : List A) → Apart key xs → Apart key ys → ((x y : A) → Among xs x → Among ys y → key x ≡ key y → ⊥) → Apart key (xs ++ ys)
+apart_append : {A : Type 0} (key : A → ℕ) (xs ys : List A) → Apart key xs → Apart key ys → ((x y : A) → Among xs x → Among ys y → key x ≡ key y → ⊥)
+    → Apart key (xs ++ ys)
 apart_append key xs ys p q cross x y a b e =
     elim (among_either xs ys x a) [
       | inl i ↦ elim (among_either xs ys y b) [ inl j ↦ p x y i j e | inr j ↦ absurd (cross x y i j e) ]
@@ -79,7 +80,8 @@ info_more l before h t i =
 not_same : (n m : ℕ) → not ((n == m) || false) ≡ true → n ≡ m → ⊥
 not_same n m e k = let z : false ≡ true = sym (ap (λ (b : Bool). not (b || false)) (ap (λ j. n == j) (sym k) ∙ eqb_same n)) ∙ e in cc
 
-info_new : (l : Line) (before : Story) → Shaped (l ∷ before) → (t : Track) (ch : Channel) → Among (members_at before) ch → ch.number ≡ t.channel → ch.topic ≡ t.topic → t.reference ≡ length before → Info (l ∷ before) t
+info_new : (l : Line) (before : Story) → Shaped (l ∷ before) → (t : Track) (ch : Channel) → Among (members_at before) ch → ch.number ≡ t.channel
+    → ch.topic ≡ t.topic → t.reference ≡ length before → Info (l ∷ before) t
 info_new l before h t ch a n tp ref =
     let P : List Channel → Type 0 = λ chs. Among chs ch in
     let w = joins_well l before h in
@@ -91,14 +93,16 @@ info_new l before h t ch a n tp ref =
       reference = omega arith;
     }
 
-cross_channel : (l : Line) (x y t : Track) (old : List Track) → tracks_in l.parts ≡ (t.channel, Some t) ∷ [] → Among (filter (λ (u : Track). is_last u.channel (tracks_in l.parts)) old) x → Among (t ∷ []) y → x.channel ≡ y.channel → ⊥
+cross_channel : (l : Line) (x y t : Track) (old : List Track) → tracks_in l.parts ≡ (t.channel, Some t) ∷ []
+    → Among (filter (λ (u : Track). is_last u.channel (tracks_in l.parts)) old) x → Among (t ∷ []) y → x.channel ≡ y.channel → ⊥
 cross_channel l x y t old e a (inr b) k = b
 cross_channel l x y t old e a (inl b) k =
     let f = among_filter (λ (u : Track). is_last u.channel (tracks_in l.parts)) old x a in
     let g : is_last x.channel ((t.channel, Some t) ∷ []) ≡ true = ap (λ (xs : List (ℕ × Option Track)). is_last x.channel xs) (sym e) ∙ f.1 in
     not_same t.channel x.channel g (ap (λ (u : Track). u.channel) b ∙ sym k)
 
-cross_reference : (before : Story) (x y t : Track) (old : List Track) (p : Track → Bool) → AllOf (Info before) old → t.reference ≡ length before → Among (filter p old) x → Among (t ∷ []) y → x.reference ≡ y.reference → ⊥
+cross_reference : (before : Story) (x y t : Track) (old : List Track) (p : Track → Bool) → AllOf (Info before) old → t.reference ≡ length before
+    → Among (filter p old) x → Among (t ∷ []) y → x.reference ≡ y.reference → ⊥
 cross_reference before x y t old p infos ref a (inr b) k = b
 cross_reference before x y t old p infos ref a (inl b) k =
     let i = all_among (Info before) old x infos (among_filter p old x a).0 in
@@ -106,13 +110,15 @@ cross_reference before x y t old p infos ref a (inl b) k =
     let same : t.reference ≡ y.reference = ap (λ (u : Track). u.reference) b in absurd (omega arith)
 
 -- one line later
-tracked_more : (l : Line) (before : Story) → Shaped (l ∷ before) → IsTracked before (standing_tracks (all_tracks before)) → IsTracked (l ∷ before) (standing_tracks (all_tracks (l ∷ before)))
+tracked_more : (l : Line) (before : Story) → Shaped (l ∷ before) → IsTracked before (standing_tracks (all_tracks before))
+    → IsTracked (l ∷ before) (standing_tracks (all_tracks (l ∷ before)))
 tracked_more l before h g =
     let new = tracks_in l.parts in
     let old = standing_tracks (all_tracks before) in
     let last : Track → Bool = λ t. is_last t.channel new in
     let kept = filter last old in
-    let is : standing_tracks (all_tracks (l ∷ before)) ≡ kept ++ standing_tracks new = ap standing_tracks (all_tracks_more l before) ∙ standing_append (all_tracks before) new (all_tagged before) in
+    let is : standing_tracks (all_tracks (l ∷ before)) ≡ kept ++ standing_tracks new =
+    ap standing_tracks (all_tracks_more l before) ∙ standing_append (all_tracks before) new (all_tagged before) in
     let P : List Track → Type 0 = IsTracked (l ∷ before) in
     let infos = all_weaker (Info before) (Info (l ∷ before)) kept (info_more l before h) (all_filter (Info before) last old g.info) in
     let chans = apart_filter (λ (t : Track). t.channel) last old g.channels in
@@ -128,7 +134,8 @@ tracked_more l before h g =
           let Q : List (ℕ × Option Track) → Type 0 = λ xs. IsTracked (l ∷ before) (kept ++ standing_tracks xs) in
           let made = among_map (member_in before) (members_at before) own.member own.here in
           let ref = own.reference in
-          let fresh : Info (l ∷ before) t = info_new l before h t made.0 made.1 (ap (λ (m : Member). m.channel.number) made.2 ∙ own.number) (ap (λ (m : Member). m.channel.topic) made.2 ∙ own.topic) own.reference in
+          let fresh : Info (l ∷ before) t =
+          info_new l before h t made.0 made.1 (ap (λ (m : Member). m.channel.number) made.2 ∙ own.number) (ap (λ (m : Member). m.channel.topic) made.2 ∙ own.topic) own.reference in
           subst Q (sym r.1) (record {
             info = all_append (Info (l ∷ before)) kept (t ∷ []) infos (fresh, tt);
             channels = apart_append (λ (u : Track). u.channel) kept (t ∷ []) chans (apart_one (λ (u : Track). u.channel) t) (λ x y a b e. cross_channel l x y t old r.1 a b e);
@@ -163,6 +170,7 @@ is_present st h =
           let i = all_among (Info st) all t g.info (among_filter held all t a).0 in
           let made = among_map (member_in st) (members_at st) m b in
           let number : made.0.number ≡ i.channel.number = ap (λ (x : Member). x.channel.number) made.2 ∙ e ∙ sym i.number in
-          let same : made.0 ≡ i.channel = one_number (joined st) made.0 i.channel (joined_rising st h) (members_joined st made.0 made.1) i.here number in
+          let same : made.0 ≡ i.channel =
+          one_number (joined st) made.0 i.channel (joined_rising st h) (members_joined st made.0 made.1) i.here number in
           sym (ap (λ (x : Member). x.channel.topic) made.2) ∙ ap (λ (x : Channel). x.topic) same ∙ i.topic;
     }

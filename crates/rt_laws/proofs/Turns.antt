@@ -122,7 +122,8 @@ eqb_turn n m = elim (eqb_tells n m) [
   other_false x y ne = elim (eqb_tells x y) [ inl u ↦ absurd (ne u.1) | inr u ↦ u.0 ]
 
 -- the tracks that a find passes over, or the one that it finds
-none_case : (n : ℕ) (t : Track) (ts : List Track) (b : Bool) → (t.channel == n) ≡ b → (find (λ (u : Track). u.channel == n) ts ≡ None → AllOf (λ (u : Track). (u.channel == n) ≡ false) ts)
+none_case : (n : ℕ) (t : Track) (ts : List Track) (b : Bool) → (t.channel == n) ≡ b
+    → (find (λ (u : Track). u.channel == n) ts ≡ None → AllOf (λ (u : Track). (u.channel == n) ≡ false) ts)
     → cond b (Some t) (find (λ (u : Track). u.channel == n) ts) ≡ None → AllOf (λ (u : Track). (u.channel == n) ≡ false) (t ∷ ts)
 none_case n t ts true e f g = absurd (cc)
 none_case n t ts false e f g = (e, f g)
@@ -131,7 +132,8 @@ pub none_found : (n : ℕ) (ts : List Track) → find (λ (t : Track). t.channel
 none_found n [] e = tt
 none_found n (t ∷ ts) e = none_case n t ts (t.channel == n) refl (none_found n ts) e
 
-one_case : (n : ℕ) (t u : Track) (ts : List Track) (b : Bool) → (t.channel == n) ≡ b → (find (λ (x : Track). x.channel == n) ts ≡ Some u → Among ts u × ((u.channel == n) ≡ true))
+one_case : (n : ℕ) (t u : Track) (ts : List Track) (b : Bool) → (t.channel == n) ≡ b
+    → (find (λ (x : Track). x.channel == n) ts ≡ Some u → Among ts u × ((u.channel == n) ≡ true))
     → cond b (Some t) (find (λ (x : Track). x.channel == n) ts) ≡ Some u → Among (t ∷ ts) u × ((u.channel == n) ≡ true)
 one_case n t u ts true e f g = let same : t ≡ u = cc in (inl same, ap (λ (x : Track). x.channel == n) (sym same) ∙ e)
 one_case n t u ts false e f g = let r = f g in (inr r.0, r.1)
@@ -198,7 +200,8 @@ module _ (now : Now) (h : Member) (in_members : Among now.members h) (rises : Ri
   -- what parts make of what the client holds
   pub record Turns (ps : List Part) (gone : List ℕ) : Type 0 where
     pub tracks : tracks_in ps ≡ []
-    pub holds : (held : List Held) → has h.channel.number (departed_in ps ++ gone) ≡ false → Moves held (shown_still gone) → Moves (client_view held (hears h.channel ps)) (shown_still (departed_in ps ++ gone))
+    pub holds : (held : List Held) → has h.channel.number (departed_in ps ++ gone) ≡ false → Moves held (shown_still gone)
+        → Moves (client_view held (hears h.channel ps)) (shown_still (departed_in ps ++ gone))
 
   pub turns_then : (ps qs : List Part) (gone : List ℕ) → Turns ps gone → Turns qs (departed_in ps ++ gone) → Turns (ps ++ qs) gone
   turns_then ps qs gone a b =
@@ -210,10 +213,12 @@ module _ (now : Now) (h : Member) (in_members : Among now.members h) (rises : Ri
         holds = λ held stays m.
             let n = h.channel.number in
             let stays_on : has n (dq ++ (dp ++ gone)) ≡ false = sym (ap (λ (xs : List ℕ). has n (xs ++ gone)) ds ∙ has_turn n dp dq gone) ∙ stays in
-            let before : has n (dp ++ gone) ≡ false = or_second (has n dq) (has n (dp ++ gone)) (sym (any_append (λ j. j == n) dq (dp ++ gone)) ∙ stays_on) in
+            let before : has n (dp ++ gone) ≡ false =
+            or_second (has n dq) (has n (dp ++ gone)) (sym (any_append (λ j. j == n) dq (dp ++ gone)) ∙ stays_on) in
             let mid = client_view held (hears h.channel ps) in
             let all = client_view held (hears h.channel (ps ++ qs)) in
-            let is : all ≡ client_view mid (hears h.channel qs) = ap (client_view held) (hears_append h.channel ps qs) ∙ view_append held (hears h.channel ps) (hears h.channel qs) in
+            let is : all ≡ client_view mid (hears h.channel qs) =
+            ap (client_view held) (hears_append h.channel ps qs) ∙ view_append held (hears h.channel ps) (hears h.channel qs) in
             let last : shown_still (dq ++ (dp ++ gone)) ≡ shown_still (departed_in (ps ++ qs) ++ gone) =
             ap (map shown_meta) (still_same (dq ++ (dp ++ gone)) (departed_in (ps ++ qs) ++ gone) (λ j. sym (ap (λ (xs : List ℕ). has j (xs ++ gone)) ds ∙ has_turn j dp dq gone))) in
             then_to all (client_view mid (hears h.channel qs)) (shown_still (departed_in (ps ++ qs) ++ gone)) (moves_same all (client_view mid (hears h.channel qs)) is)
@@ -230,7 +235,8 @@ module _ (now : Now) (h : Member) (in_members : Among now.members h) (rises : Ri
         subst Q (sym (mute_departs ps a)) (subst P (sym (mute_view h.channel held ps a)) m);
   }
 
-  pub turns_each : {A : Type 0} (act : List ℕ → A → List Part) (B : A → Type 0) → ((gone : List ℕ) (x : A) → B x → Turns (act gone x) gone) → (gone : List ℕ) (xs : List A) → AllOf B xs → Turns (in_turn act gone xs) gone
+  pub turns_each : {A : Type 0} (act : List ℕ → A → List Part) (B : A → Type 0) → ((gone : List ℕ) (x : A) → B x → Turns (act gone x) gone)
+      → (gone : List ℕ) (xs : List A) → AllOf B xs → Turns (in_turn act gone xs) gone
   turns_each act B f gone [] a = record { tracks = refl; holds = λ held stays m. m }
   turns_each act B f gone (x ∷ xs) a =
       let next = departed_in (act gone x) ++ gone in
@@ -255,7 +261,8 @@ module _ (now : Now) (h : Member) (in_members : Among now.members h) (rises : Ri
       → Moves (after_message held (presence_diff h.channel [] (t ∷ []))) (shown_still (n ∷ gone))
   leave_on gone n t held a e m =
       let fits : t.reference < 2 ^ 64 = all_among (λ (u : Track). u.reference < 2 ^ 64) now.tracks t small a in
-      let few : AllOf (λ (u : Track). u.reference < 2 ^ 64) (still gone) = all_filter (λ (u : Track). u.reference < 2 ^ 64) on (filter (left gone) now.tracks) (all_filter (λ (u : Track). u.reference < 2 ^ 64) (left gone) now.tracks small) in
+      let few : AllOf (λ (u : Track). u.reference < 2 ^ 64) (still gone) =
+      all_filter (λ (u : Track). u.reference < 2 ^ 64) on (filter (left gone) now.tracks) (all_filter (λ (u : Track). u.reference < 2 ^ 64) (left gone) now.tracks small) in
       let q : Track → Bool = λ u. not (leaves_in (t ∷ []) u) in
       let done = after_message held (presence_diff h.channel [] (t ∷ [])) in
       let same : filter q (still gone ++ []) ≡ still (n ∷ gone) =
@@ -283,12 +290,14 @@ module _ (now : Now) (h : Member) (in_members : Among now.members h) (rises : Ri
     off_of true f = absurd (let k : true ≡ false = sym ((bytes_eq-Decides h.channel.topic t.topic).1 (sym ((bytes_eq-Decides t.topic h.channel.topic).0 f))) ∙ e in cc)
     off_of false f = f
 
-  leave_case : (gone : List ℕ) (n : ℕ) (t : Track) (held : List Held) (b : Bool) → bytes_eq h.channel.topic t.topic ≡ b → Among now.tracks t → t.channel ≡ n → Moves held (shown_still gone)
+  leave_case : (gone : List ℕ) (n : ℕ) (t : Track) (held : List Held) (b : Bool) → bytes_eq h.channel.topic t.topic ≡ b → Among now.tracks t
+      → t.channel ≡ n → Moves held (shown_still gone)
       → Moves (client_view held (elim b as (λ x. List Message) [ true ↦ presence_diff h.channel [] (t ∷ []) ∷ [] | false ↦ [] ])) (shown_still (n ∷ gone))
   leave_case gone n t held true k a e m = leave_on gone n t held a e m
   leave_case gone n t held false k a e m = let P : List Held → Type 0 = Moves held in subst P (leave_off gone n t a e (on_turn t false k)) m
 
-  pub leave_view : (gone : List ℕ) (n : ℕ) (o : Option Track) (held : List Held) → track_of now n ≡ o → Moves held (shown_still gone) → Moves (client_view held (leave_for h.channel o)) (shown_still (n ∷ gone))
+  pub leave_view : (gone : List ℕ) (n : ℕ) (o : Option Track) (held : List Held) → track_of now n ≡ o → Moves held (shown_still gone)
+      → Moves (client_view held (leave_for h.channel o)) (shown_still (n ∷ gone))
   leave_view gone n None held e m = let P : List Held → Type 0 = Moves held in subst P (leave_none gone n e) m
   leave_view gone n (Some t) held e m =
       let f = one_found n now.tracks t e in
@@ -309,10 +318,12 @@ module _ (now : Now) (h : Member) (in_members : Among now.members h) (rises : Ri
       }
 
   pub turns_close : (gone : List ℕ) (g : Member) → Turns (close now gone g) gone
-  turns_close gone g = turns_then (Tells g.channel.slot (close_message g.channel) ∷ []) (depart now gone g) gone (turns_mute (Tells g.channel.slot (close_message g.channel) ∷ []) gone ((refl, refl), tt)) (turns_depart gone g)
+  turns_close gone g =
+      turns_then (Tells g.channel.slot (close_message g.channel) ∷ []) (depart now gone g) gone (turns_mute (Tells g.channel.slot (close_message g.channel) ∷ []) gone ((refl, refl), tt)) (turns_depart gone g)
 
   pub turns_fail : (reason gone : List ℕ) (g : Member) → Turns (fail now reason gone g) gone
-  turns_fail reason gone g = turns_then (Tells g.channel.slot (failed_message g.channel reason) ∷ []) (close now gone g) gone (turns_mute (Tells g.channel.slot (failed_message g.channel reason) ∷ []) gone ((refl, refl), tt)) (turns_close gone g)
+  turns_fail reason gone g =
+      turns_then (Tells g.channel.slot (failed_message g.channel reason) ∷ []) (close now gone g) gone (turns_mute (Tells g.channel.slot (failed_message g.channel reason) ∷ []) gone ((refl, refl), tt)) (turns_close gone g)
 
   pub turns_end : (gone : List ℕ) (slot : ℕ) (name : EndName) → Turns (end_of now gone slot name) gone
   turns_end gone slot name =

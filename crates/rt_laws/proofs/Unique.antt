@@ -32,7 +32,8 @@ rising_map st [] r = tt
 rising_map st (ch ∷ chs) r =
     (all_map_of (λ (g : Member). ch.number < g.channel.number) (λ (d : Channel). ch.number < d.number) (member_in st) chs (λ d lt. lt) r.0, rising_map st chs r.1)
 
-rising_append : (n : ℕ) (xs js : List Channel) → Rising xs → AllOf (IsBelow n) xs → ((length js ≡ 0) ⊎ (length js ≡ 1)) → AllOf (λ (ch : Channel). ch.number ≡ n) js → Rising (xs ++ js)
+rising_append : (n : ℕ) (xs js : List Channel) → Rising xs → AllOf (IsBelow n) xs → ((length js ≡ 0) ⊎ (length js ≡ 1))
+    → AllOf (λ (ch : Channel). ch.number ≡ n) js → Rising (xs ++ js)
 rising_append n [] [] r b one e = tt
 rising_append n [] (j ∷ []) r b one e = (tt, tt)
 rising_append n [] (j ∷ k ∷ more) r b (inl one) e = absurd (omega arith)
@@ -67,5 +68,6 @@ same_of (x ∷ xs) g h r (inr a) (inl b) e =
 same_of (x ∷ xs) g h r (inr a) (inr b) e = same_of xs g h r.1 a b e
 
 -- members of one number are one
-pub same_member : (st : Story) (g h : Member) → Shaped st → Among (members_in st) g → Among (members_in st) h → g.channel.number ≡ h.channel.number → g ≡ h
+pub same_member : (st : Story) (g h : Member) → Shaped st → Among (members_in st) g → Among (members_in st) h → g.channel.number ≡ h.channel.number
+    → g ≡ h
 same_member st g h sh a b e = same_of (members_in st) g h (members_rising st sh) a b e

@@ -64,12 +64,15 @@ module _ (c : Catalog) (s : Settings) where
       by_case w slot (nat_le s.inputs (length w.journal)) (spent, w) (elim (nat_lt s.rows (rows_left c s w.journal i)) [ true ↦ (rows_full, w) | false ↦ (done, record rest { journal = i ∷ w.journal }) ]) (nothing w slot)
       (by_case w slot (nat_lt s.rows (rows_left c s w.journal i)) (rows_full, w) (done, record rest { journal = i ∷ w.journal }) (nothing w slot) next)
 
-  first_kept : (w : World) (inputs : List Input) (put : List Input → World → World) (slot : ℕ) → ((is : List Input) → IsUntouched w (put is w) slot) → Keeps w slot (take_first c s w inputs put)
+  first_kept : (w : World) (inputs : List Input) (put : List Input → World → World) (slot : ℕ) → ((is : List Input) → IsUntouched w (put is w) slot)
+      → Keeps w slot (take_first c s w inputs put)
   first_kept w [] put slot h = nothing w slot
   first_kept w (i ∷ rest) put slot h = taken_kept w (put rest w) i slot (h rest)
 
-  arrive_kept : (w : World) (inputs : List Input) (put : List Input → World → World) (i : Input) (slot : ℕ) → ((is : List Input) → IsUntouched w (put is w) slot) → Keeps w slot (arrive c s w inputs put i)
-  arrive_kept w inputs put i slot h = by_case w slot (nat_lt (length inputs) s.inlet) (done, put (inputs ++ i ∷ []) w) (full, w) (h (inputs ++ i ∷ [])) (nothing w slot)
+  arrive_kept : (w : World) (inputs : List Input) (put : List Input → World → World) (i : Input) (slot : ℕ)
+      → ((is : List Input) → IsUntouched w (put is w) slot) → Keeps w slot (arrive c s w inputs put i)
+  arrive_kept w inputs put i slot h =
+      by_case w slot (nat_lt (length inputs) s.inlet) (done, put (inputs ++ i ∷ []) w) (full, w) (h (inputs ++ i ∷ [])) (nothing w slot)
 
   at_kept : (w : World) (i : Input) (o : Option ℕ) (slot : ℕ) → Keeps w slot (arrive_at c s w i o)
   at_kept w i None slot = nothing w slot
@@ -167,7 +170,8 @@ module _ (c : Catalog) (s : Settings) where
   own_pop_step w n = inl (own_pop w n (outbox (w.slots n)))
 
   own_at : (w : World) (x : Step) (n slot : ℕ) → IsOwn w x n → ((n ≡ slot → ⊥) → IsUntouched w (step_of c s w x).1 slot) → IsOwn w x slot
-  own_at w x n slot own other = elim (eqb_tells n slot) [ inl t ↦ let P : ℕ → Type 0 = λ m. IsOwn w x m in subst P t.1 own | inr t ↦ inl (other t.1).cuts ]
+  own_at w x n slot own other =
+      elim (eqb_tells n slot) [ inl t ↦ let P : ℕ → Type 0 = λ m. IsOwn w x m in subst P t.1 own | inr t ↦ inl (other t.1).cuts ]
 
   pub cuts_are_own : (w : World) (x : Step) (slot : ℕ) → IsOwn w x slot
   cuts_are_own w (Push n) slot = own_at w (Push n) n slot (own_push w n) (λ ne. untouched w (Push n) slot ne)
@@ -180,7 +184,8 @@ module _ (c : Catalog) (s : Settings) where
   cuts_are_own w (Send l) slot = inl (untouched w (Send l) slot (λ e. e)).cuts
   cuts_are_own w (Work l) slot = inl (untouched w (Work l) slot (λ e. e)).cuts
 
-  push_rest : (w : World) (n : ℕ) (ps : List Placed) → ((push c s w n (w.slots n) ps).1.journal ≡ w.journal) × ((l : ℕ) → (push c s w n (w.slots n) ps).1.lanes l ≡ w.lanes l)
+  push_rest : (w : World) (n : ℕ) (ps : List Placed)
+      → ((push c s w n (w.slots n) ps).1.journal ≡ w.journal) × ((l : ℕ) → (push c s w n (w.slots n) ps).1.lanes l ≡ w.lanes l)
   push_rest w n [] = (refl, λ l. refl)
   push_rest w n (p ∷ ps) =
       elim (is_full_for c s (w.slots n) p.item) as (λ b. let r : Outcome × World = elim b [ true ↦ (full, with_slot w n (with_cut (w.slots n) p)) | false ↦ (done, with_slot w n (with_given (w.slots n) p)) ] in (r.1.journal ≡ w.journal) × ((l : ℕ) → r.1.lanes l ≡ w.lanes l)) [
