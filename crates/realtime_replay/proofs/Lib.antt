@@ -1,2 +1,4 @@
+pub mod Equal
+pub mod Lists
 pub mod Rows
 pub mod WordLists

@@ -1,7 +1,9 @@
 pub mod Answers
 pub mod Faults
+pub mod Lexing
 pub mod Messages
 pub mod Output
 pub mod Printed
+pub mod Script
 pub mod Trees
 pub mod Words

@@ -1,5 +1,6 @@
-use crate::cursor::{Cursor, words_of};
+use crate::cursor::Cursor;
 use crate::fault::FormFault;
+use crate::lexing::words_of;
 use rt_value::{List, Text};
 use std::alloc::{AllocError, Global};
 

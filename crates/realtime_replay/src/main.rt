@@ -6,6 +6,7 @@ mod cursor;
 mod fault;
 mod insert;
 mod join;
+mod lexing;
 mod messages;
 mod numbers;
 mod places;

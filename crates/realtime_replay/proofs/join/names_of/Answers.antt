@@ -1,0 +1,14 @@
+use Rattle.std.proofs.Common.{◌≡◌, ◌++◌, ◌∷◌, [], List, ℕ, length, ◌==◌, codes, sym, ap, refl, ◌∙◌, true, false, subst, arith}
+use Rattle.rt_json.specs.declared.tree.Json.{Json}
+use Rattle.rt_json.specs.declared.tree.Json.TheVariants as j
+use Rattle.realtime_replay.specs.Trees.{named}
+use Rattle.std.proofs.lemmas.Result.{err_from_is_err_and}
+use Rattle.realtime_replay.specs.Script.{IsChannel}
+use Rattle.realtime_replay.proofs.Equal.{frame_twice, text_twice}
+use Rattle.realtime_replay.proofs.join.names_of.Goals as goal
+
+pub returns-in_err-channel : goal.returns-in_err-channel
+returns-in_err-channel c = rw c.from_residual-in_err-channel.ensures (λ t ch r h.
+    let same = frame_twice _ _ _ _ _ _ (sym c.in_ok-topic.ensures ∙ h.0) in
+    let P : List ℕ → Type 0 = λ x. IsChannel x ch in
+    c.in_err-channel.ensures ch (subst P (sym (c.get.ensures.bytes ∙ text_twice _ _ same.0)) h.1))
