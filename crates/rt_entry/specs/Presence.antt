@@ -1,6 +1,6 @@
 -- The presence that a client holds (the Realtime protocol, "Presence"): the metas of a state, then of each difference its joins added and its
 -- leaves removed by `phx_ref`.
-use Rattle.std.specs.Prelude.{◌≡◌, ℕ, ◌==◌, nat_le, Bool, true, false, not, ◌&&◌, List, [], ◌∷◌, ◌++◌, map, length, codes, Option, Some, None, count_by, unwrap_or, IsPermutation, Contains}
+use Rattle.std.specs.Prelude.{◌≡◌, ℕ, ◌==◌, ◌<◌, ◌^◌, nat_le, Bool, true, false, not, ◌&&◌, List, [], ◌∷◌, ◌++◌, map, length, codes, Option, Some, None, count_by, unwrap_or, IsPermutation, Contains}
 use Rattle.std.specs.List.{filter, filter_map, flat_map, list_any}
 use Rattle.std.specs.Str.{bytes_eq}
 use Rattle.rt_value.specs.Choice.{◌>>=◌, first_case}
@@ -83,9 +83,11 @@ module _ (c : Catalog) (s : Settings) where
   present_on journal topic = filter (λ t. bytes_eq t.topic topic) (present_at (story c s journal))
 
   -- Each member with presence holds what is present on its topic. A state is in key order and the tracks in journal order, so it is equal up to order.
+  -- A client takes metas away by `phx_ref`, the number of the track's input in decimal, and that tells numbers apart below 2 ^ 64: so the journal is
+  -- shorter.
   abbrev pub ClientsAgree : List Input → Type 0
   ClientsAgree journal =
-      (ch : Channel) → Contains (members_at (story c s journal)) ch → ch.presence ≡ true
+      length journal < 2 ^ 64 → (ch : Channel) → Contains (members_at (story c s journal)) ch → ch.presence ≡ true
       → IsPermutation (client_view [] (told_since ch journal)) (map shown_meta (present_on journal ch.topic))
 
 -- The same of what a slot was given. A client reads the items behind the last terminator.

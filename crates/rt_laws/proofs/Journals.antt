@@ -11,7 +11,7 @@ use Rattle.rt_laws.proofs.Grows.{now_grows}
 use Rattle.rt_laws.proofs.Sound.{members_in, Shaped, held_below, members_apart, shape_sound}
 
 module _ (c : Catalog) (s : Settings) where
-  abbrev line_of : List Input → Input → Line
+  abbrev pub line_of : List Input → Input → Line
   line_of journal i = record { input = i; parts = doings c s (now_of (story c s journal)) (tables_left c (story c s journal) i) i }
 
   pub shape_next : (st : Story) (i : Input) → Shaped st

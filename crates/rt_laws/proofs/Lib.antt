@@ -1,3 +1,4 @@
+mod Agree
 mod Allowed
 pub mod Among
 mod Clients
@@ -17,11 +18,13 @@ pub mod Marks
 mod Metas
 mod Moves
 mod Once
+mod Opens
 pub mod Plain
 mod Present
 mod Sent
 pub mod Shapes
 pub mod Sound
+mod Starts
 mod Tracked
 mod Turns
 mod Unique

@@ -101,7 +101,7 @@ eqb_same n = elim (eqb_tells n n) [ inl t ↦ t.0 | inr t ↦ absurd (t.1 refl) 
 same_number : (n m : ℕ) → (n == m) ≡ true → n ≡ m
 same_number n m e = elim (eqb_tells n m) [ inl t ↦ t.1 | inr t ↦ absurd (let k : true ≡ false = sym e ∙ t.0 in cc) ]
 
-or_left : (x y : Bool) → x ≡ true → (x || y) ≡ true
+pub or_left : (x y : Bool) → x ≡ true → (x || y) ≡ true
 or_left true y e = refl
 or_left false y e = absurd (cc)
 
@@ -117,7 +117,7 @@ find_some : {A : Type 0} (p : A → Bool) (xs : List A) (y : A) → Among xs y �
 find_some p [] y h k = absurd h
 find_some p (x ∷ xs) y h k = find_case p x xs y (p x) refl k h (λ i. find_some p xs y i k)
 
-option_all : {A : Type 0} (B : A → Type 0) (o : Option A) → Maybe B o → AllOf B (option_to_list o)
+pub option_all : {A : Type 0} (B : A → Type 0) (o : Option A) → Maybe B o → AllOf B (option_to_list o)
 option_all B None h = tt
 option_all B (Some x) h = (h, tt)
 
@@ -184,16 +184,16 @@ module _ (now : Now) (a : AllOf (Below now.number) now.members) (apart : AreApar
   channels_below : (slot : ℕ) → AllOf (Below now.number) (channels_of now slot)
   channels_below slot = all_filter (Below now.number) (is_of_slot slot) now.members a
 
-  plain_end : (gone : List ℕ) (slot : ℕ) (name : EndName) → AllOf (Plain true now.number) (end_of now gone slot name)
+  pub plain_end : (gone : List ℕ) (slot : ℕ) (name : EndName) → AllOf (Plain true now.number) (end_of now gone slot name)
   plain_end gone slot name =
       all_append (Plain true now.number) (in_turn (depart now) gone (channels_of now slot)) (Ends slot name ∷ [])
       (plain_turn now.number (depart now) (Below now.number) (λ g h b. plain_depart now.number now g h b) gone (channels_of now slot) (channels_below slot)) (tt, tt)
 
-  plain_end_if : (slot : ℕ) (name : EndName) (o : Option Opening) → AllOf (Plain true now.number) (end_if_open now slot name o)
+  pub plain_end_if : (slot : ℕ) (name : EndName) (o : Option Opening) → AllOf (Plain true now.number) (end_if_open now slot name o)
   plain_end_if slot name None = tt
   plain_end_if slot name (Some o) = plain_end [] slot name
 
-  plain_open : (slot : ℕ) (o : Opening) → AllOf (Plain true now.number) (open_parts now slot o)
+  pub plain_open : (slot : ℕ) (o : Opening) → AllOf (Plain true now.number) (open_parts now slot o)
   plain_open slot o =
       all_append (Plain true now.number) (end_if_open now slot end_name.Replaced (opening_in now slot)) (Opens slot o ∷ (if now.stopped then Ends slot end_name.Stopped ∷ [] else []))
       (plain_end_if slot end_name.Replaced (opening_in now slot))
@@ -208,11 +208,11 @@ module _ (now : Now) (a : AllOf (Below now.number) now.members) (apart : AreApar
         | false ↦ plain_turn now.number (fail now (codes "token expired")) (Below now.number) (λ g h b. plain_fail now.number now (codes "token expired") g h b) gone ended (all_filter (Below now.number) (has_run_out moment) (channels_of now slot) (channels_below slot))
       ]
 
-  plain_ticks : (moment : ℕ) (xs : List (ℕ × Option Opening)) → AllOf (Plain true now.number) (in_turn (tick_parts now moment) [] xs)
+  pub plain_ticks : (moment : ℕ) (xs : List (ℕ × Option Opening)) → AllOf (Plain true now.number) (in_turn (tick_parts now moment) [] xs)
   plain_ticks moment xs =
       plain_turn now.number (tick_parts now moment) (λ x. ⊤) (λ g x t. plain_tick moment g x) [] xs (all_every (λ x. ⊤) xs (λ x. tt))
 
-  plain_stop : (x : ℕ × Option Opening) → AllOf (Plain true now.number) (stop_parts now x)
+  pub plain_stop : (x : ℕ × Option Opening) → AllOf (Plain true now.number) (stop_parts now x)
   plain_stop (slot, None) = tt
   plain_stop (slot, Some o) =
       all_append (Plain true now.number) (map departs_of (channels_of now slot)) (Ends slot end_name.Stopped ∷ [])
@@ -348,7 +348,7 @@ module _ (now : Now) (a : AllOf (Below now.number) now.members) (apart : AreApar
     plain_change to ch [] = tt
     plain_change to ch (sub ∷ more) = (tt, tt)
 
-    plain_change_all : (subs : List Subscription) (tables : List (List Row)) (views : List ChannelView) (ch : Change)
+    pub plain_change_all : (subs : List Subscription) (tables : List (List Row)) (views : List ChannelView) (ch : Change)
         → AllOf (Plain false now.number) (change_parts_to_all c s subs tables views ch)
     plain_change_all subs tables views ch =
         elim (is_truncate ch.verb) as (λ t. AllOf (Plain false now.number) (elim t [ true ↦ [] | false ↦ flat_map (change_parts_to c s subs tables ch) views ])) [

@@ -19,7 +19,7 @@ use Rattle.rt_laws.proofs.Grows.{Tagged, is_held, IsSound, remains_by, joined_gr
 
 -- what plain parts leave
 
-plain_joins : (b : Bool) (n : ℕ) (ps : List Part) → AllOf (Plain b n) ps → joins_of ps ≡ []
+pub plain_joins : (b : Bool) (n : ℕ) (ps : List Part) → AllOf (Plain b n) ps → joins_of ps ≡ []
 plain_joins b n [] h = refl
 plain_joins b n (Opens s o ∷ ps) h = plain_joins b n ps h.1
 plain_joins b n (Ends s m ∷ ps) h = plain_joins b n ps h.1
@@ -99,7 +99,7 @@ quiet_tracks b (Tracks t ∷ ps) h = absurd h.0
 quiet_tracks b (Untracks k ∷ ps) h = absurd h.0
 quiet_tracks b (Departs k ∷ ps) h = absurd h.0
 
-has_append : (m : ℕ) (ps qs : List Part) → has m (departed_in (ps ++ qs)) ≡ (has m (departed_in ps) || has m (departed_in qs))
+pub has_append : (m : ℕ) (ps qs : List Part) → has m (departed_in (ps ++ qs)) ≡ (has m (departed_in ps) || has m (departed_in qs))
 has_append m ps qs = ap (has m) (filter_map-append departed_by ps qs) ∙ any_append (λ j. j == m) (departed_in ps) (departed_in qs)
 
 around_has : (b : Bool) (n m : ℕ) (front : List Part) (p : Part) (back : List Part) → n ≤ m → AllOf (Plain b n) front → AllOf (Plain b n) back
@@ -251,7 +251,7 @@ joined_below (l ∷ before) h =
     (all_weaker (IsBelow n) (IsBelow m) (joined before) (λ ch lt. omega arith) (joined_below before h.1))
     (all_weaker (λ ch. ch.number ≡ n) (IsBelow m) (joins_of l.parts) (λ ch e. omega arith) w.numbers))
 
-members_below : (st : Story) → Shaped st → AllOf (IsBelow (length st)) (members_at st)
+pub members_below : (st : Story) → Shaped st → AllOf (IsBelow (length st)) (members_at st)
 unfolding members_at
 members_below st h = all_filter (IsBelow (length st)) (λ ch. not (has ch.number (departed st))) (joined st) (joined_below st h)
 
@@ -475,7 +475,7 @@ apart_more l before h ap_old x y a b sl tp =
       ]
     ]
 
-no_members : members_at [] ≡ []
+pub no_members : members_at [] ≡ []
 unfolding members_at joined
 no_members = refl
 

@@ -49,7 +49,7 @@ IsMute (Tracks t) = ⊥
 IsMute (Untracks m) = ⊥
 IsMute (Departs m) = ⊥
 
-mute_departs : (ps : List Part) → AllOf IsMute ps → departed_in ps ≡ []
+pub mute_departs : (ps : List Part) → AllOf IsMute ps → departed_in ps ≡ []
 mute_departs [] a = refl
 mute_departs (Opens s o ∷ ps) a = mute_departs ps a.1
 mute_departs (Ends s e ∷ ps) a = mute_departs ps a.1
@@ -60,7 +60,7 @@ mute_departs (Tracks t ∷ ps) a = absurd a.0
 mute_departs (Untracks k ∷ ps) a = absurd a.0
 mute_departs (Departs k ∷ ps) a = absurd a.0
 
-mute_tracks : (ps : List Part) → AllOf IsMute ps → tracks_in ps ≡ []
+pub mute_tracks : (ps : List Part) → AllOf IsMute ps → tracks_in ps ≡ []
 mute_tracks [] a = refl
 mute_tracks (Opens s o ∷ ps) a = mute_tracks ps a.1
 mute_tracks (Ends s e ∷ ps) a = mute_tracks ps a.1
@@ -100,13 +100,13 @@ or_turn true false z = refl
 or_turn false true z = refl
 or_turn false false z = refl
 
-has_turn : (n : ℕ) (xs ys zs : List ℕ) → has n ((xs ++ ys) ++ zs) ≡ has n (ys ++ (xs ++ zs))
+pub has_turn : (n : ℕ) (xs ys zs : List ℕ) → has n ((xs ++ ys) ++ zs) ≡ has n (ys ++ (xs ++ zs))
 has_turn n xs ys zs =
     let p : ℕ → Bool = λ m. m == n in
     any_append p (xs ++ ys) zs ∙ ap (λ b. b || has n zs) (any_append p xs ys) ∙ or_turn (has n xs) (has n ys) (has n zs)
     ∙ ap (λ b. has n ys || b) (sym (any_append p xs zs)) ∙ sym (any_append p ys (xs ++ zs))
 
-or_second : (x y : Bool) → (x || y) ≡ false → y ≡ false
+pub or_second : (x y : Bool) → (x || y) ≡ false → y ≡ false
 or_second true y e = absurd (cc)
 or_second false y e = e
 
@@ -155,7 +155,7 @@ pub no_track_parts : (joins leaves : List Track) (ms : List Member) → tracks_i
 no_track_parts joins leaves [] = refl
 no_track_parts joins leaves (m ∷ ms) = no_track_parts joins leaves ms
 
-none_track : (now : Now) (gone : List ℕ) (o : Option Track) → tracks_in (leave_diffs now gone o) ≡ []
+pub none_track : (now : Now) (gone : List ℕ) (o : Option Track) → tracks_in (leave_diffs now gone o) ≡ []
 none_track now gone None = refl
 none_track now gone (Some t) = no_track_parts [] (t ∷ []) (filter (watches gone t.topic) now.members)
 

@@ -1,5 +1,8 @@
+ghost use Rattle.std.specs.Prelude.{List};
 ghost use Rattle.rt_catalog.specs.declared.catalog.Catalog.{Catalog as CatalogData};
 ghost use Rattle.rt_entry.specs.declared.input.Settings.{Settings as SettingsData};
+ghost use Rattle.rt_entry.specs.declared.input.Input.{Input as InputData};
+ghost use Rattle.rt_entry.specs.Presence.{ClientsAgree};
 ghost use Rattle.rt_laws.specs.Departures.{DeparturesAreTold};
 ghost use Rattle.rt_laws.specs.Follows.{ClientsFollow};
 ghost use Rattle.rt_laws.specs.Views.{StatesAreRead};
@@ -19,4 +22,10 @@ pub fn departures_are_told()
 /// order: for every input but a stop, where the input doesn't let it depart.
 pub fn clients_follow()
     ensures { (c : CatalogData) (s : SettingsData) → ClientsFollow c s }
+{}
+
+/// After any journal, each member with presence enabled holds, by its presence state and the later differences that it was told, what is present on its
+/// topic, up to order.
+pub fn clients_agree()
+    ensures { (c : CatalogData) (s : SettingsData) (journal : List InputData) → ClientsAgree c s journal }
 {}
