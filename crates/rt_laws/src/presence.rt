@@ -30,8 +30,8 @@ pub fn clients_agree()
     ensures { (c : CatalogData) (s : SettingsData) (journal : List InputData) → ClientsAgree c s journal }
 {}
 
-/// The same of what a slot was given after any list of steps: where that is, of the slot's opening, exactly what is due by the inputs so far, and what
-/// the slot was told since the join is read again (of whatever length), the client reads what is present.
+/// The same of what a slot was given after any list of steps: where that is, of the slot's opening, exactly what is due by the inputs so far, its client
+/// holds what is present on the topic of each member with presence enabled, by whatever reader takes what the slot was told since the join.
 pub fn given_clients_agree()
     ensures { (c : CatalogData) (s : SettingsData) → GivenClientsAgree c s }
 {}

@@ -1,9 +1,7 @@
-use Rattle.rt_json.specs.Grammar.{max_levels}
-use Rattle.rt_json.specs.Written.{written}
+use Rattle.std.proofs.Common.{suc}
 use Rattle.rt_json.proofs.Back.{json_written}
-use Rattle.rt_json.proofs.Meaning.{tree_again}
-use Rattle.rt_laws.proofs.Read.{ReadAgain, given_agree}
+use Rattle.rt_laws.proofs.Read.{given_agree}
 use Rattle.rt_laws.proofs.presence.given_clients_agree.Goals as goal
 
 pub returns : goal.returns
-returns c = given_agree (record { tree = λ tree fits. tree_again (written tree) tree (json_written max_levels tree fits) })
+returns k c s = given_agree c s (λ levels. record { text = json_written (suc levels) })
