@@ -1,16 +1,19 @@
 -- The presence that a client holds (the Realtime protocol, "Presence"): the metas of a state, then of each difference its joins added and its
 -- leaves removed by `phx_ref`.
-use Rattle.std.specs.Prelude.{◌≡◌, ℕ, ◌==◌, ◌<◌, ◌^◌, nat_le, Bool, true, false, not, ◌&&◌, List, [], ◌∷◌, ◌++◌, map, length, codes, Option, Some, None, count_by, unwrap_or, IsPermutation, Contains}
-use Rattle.std.specs.List.{filter, filter_map, flat_map, list_any}
+use Rattle.std.specs.Prelude.{◌≡◌, ℕ, suc, ◌==◌, ◌<◌, ◌^◌, nat_le, Bool, true, false, not, ◌&&◌, List, [], ◌∷◌, ◌++◌, map, length, codes, Option, Some, None, count_by, unwrap_or, IsPermutation, Contains, IsUtf8}
+use Rattle.std.specs.List.{filter, filter_map, flat_map, list_any, AllByRecursion}
 use Rattle.std.specs.Str.{bytes_eq}
 use Rattle.rt_value.specs.Choice.{◌>>=◌, first_case}
 use Rattle.rt_json.specs.declared.tree.Json.{Json}
 use Rattle.rt_json.specs.declared.tree.named.Member.{Member}
+use Rattle.rt_json.specs.Fits.{FitsWithin}
+use Rattle.rt_json.specs.Grammar.{IsWithin}
 use Rattle.rt_json.specs.Lookup.{member_of, members_of}
 use Rattle.rt_json.specs.Trees.{text_of, list_of}
 use Rattle.rt_phx.specs.declared.message.Message.{Message}
 use Rattle.rt_phx.specs.declared.message.Version.{Version}
-use Rattle.rt_phx.specs.Frame.{no_members, message_of}
+use Rattle.rt_phx.specs.Fits.{IsRef}
+use Rattle.rt_phx.specs.Frame.{no_members, message_of_tree}
 use Rattle.rt_catalog.specs.declared.catalog.Catalog.{Catalog}
 use Rattle.rt_entry.specs.declared.input.Input.{Input}
 use Rattle.rt_entry.specs.declared.input.Settings.{Settings}
@@ -25,8 +28,8 @@ use Rattle.rt_entry.specs.declared.answer.Answer.TheVariants.{Opened, Says, Ende
 use Rattle.rt_entry.specs.Story.{opening_at, members_at, present_at}
 use Rattle.rt_entry.specs.Messages.{meta_tree}
 use Rattle.rt_entry.specs.Doings.{story}
-use Rattle.rt_entry.specs.Answers.{answers, due}
-use Rattle.rt_entry.specs.Machine.{World, is_message, is_cut, start, run}
+use Rattle.rt_entry.specs.Answers.{told, answers, due}
+use Rattle.rt_entry.specs.Machine.{World, is_message, start, run}
 
 -- a key and a meta under it
 abbrev pub Held : Type 0
@@ -84,13 +87,14 @@ module _ (c : Catalog) (s : Settings) where
 
   -- Each member with presence holds what is present on its topic. A state is in key order and the tracks in journal order, so it is equal up to order.
   -- A client takes metas away by `phx_ref`, the number of the track's input in decimal, and that tells numbers apart below 2 ^ 64: so the journal is
-  -- shorter.
+  -- shorter (a hub takes 2 ^ 32 - 1 inputs).
   abbrev pub ClientsAgree : List Input → Type 0
   ClientsAgree journal =
       length journal < 2 ^ 64 → (ch : Channel) → Contains (members_at (story c s journal)) ch → ch.presence ≡ true
       → IsPermutation (client_view [] (told_since ch journal)) (map shown_meta (present_on journal ch.topic))
 
--- The same of what a slot was given. A client reads the items behind the last terminator.
+-- The same of what a slot was given. A client reads the items behind the last terminator, by a reader of its own: what the server says may be longer and
+-- nest deeper than a frame that the server reads.
 abbrev pub end_count : List Item → ℕ
 end_count items = count_by (λ x. not (is_message x)) items
 
@@ -99,27 +103,50 @@ last_items [] = []
 last_items (End name ∷ more) = last_items more
 last_items (Said bytes ∷ more) = elim (end_count more == 0) [ true ↦ Said bytes ∷ more | false ↦ last_items more ]
 
-abbrev pub message_in : Version → Item → Option Message
-message_in version (Said bytes) = message_of version bytes
-message_in version (End name) = None
+-- it reads each text of the grammar whose lists and objects nest in at most so many levels
+pub record IsReader (levels : ℕ) (read : List ℕ → Option Json) : Type 0 where
+  pub reads : (bytes : List ℕ) (tree : Json) → IsWithin levels tree bytes → read bytes ≡ Some tree
 
-abbrev pub messages_on : Version → List ℕ → List Item → List Message
-messages_on version topic items = filter (λ m. bytes_eq m.topic topic) (filter_map (message_in version) items)
+abbrev pub message_in : (List ℕ → Option Json) → Version → Item → Option Message
+message_in read version (Said bytes) = read bytes >>= message_of_tree version
+message_in read version (End name) = None
+
+abbrev pub messages_on : (List ℕ → Option Json) → Version → List ℕ → List Item → List Message
+messages_on read version topic items = filter (λ m. bytes_eq m.topic topic) (filter_map (message_in read version) items)
+
+-- its numbers are numbers of the grammar, its texts are UTF-8, and its payload nests in at most so many levels
+pub record IsReadable (levels : ℕ) (m : Message) : Type 0 where
+  pub join_ref : IsRef m.join_ref
+  pub reference : IsRef m.reference
+  pub topic : IsUtf8 m.topic
+  pub event : IsUtf8 m.event
+  pub payload : FitsWithin levels m.payload
+
+abbrev pub said_by : Answer → Option Message
+said_by (Says m) = Some m
+said_by (Opened version) = None
+said_by (Ended name) = None
 
 module _ (c : Catalog) (s : Settings) where
-  -- The slot has a member with presence in an opening that isn't cut, and of that opening it was given exactly what is due by the inputs so far.
+  -- what a channel's slot was told from its join on, on all topics
+  abbrev pub said_since : Channel → List Input → List Message
+  said_since ch [] = []
+  said_since ch (i ∷ before) =
+      elim (nat_le ch.number (length before)) [ true ↦ said_since ch before ++ filter_map said_by (told ch.slot (answers c s before i)) | false ↦ [] ]
+
+  -- The slot has a member with presence in an opening, and of that opening it was given exactly what is due by the inputs so far (so it isn't cut).
   pub record IsUpTo (w : World) (before : List Input) (ch : Channel) (o : Opening) : Type 0 where
     pub member : Contains (members_at (story c s before)) ch
     pub enabled : ch.presence ≡ true
     pub opening : opening_at (story c s before) ch.slot ≡ Some o
-    pub uncut : is_cut (w.slots ch.slot).cuts (end_count (due c s before ch.slot)) ≡ false
-    pub as_many : end_count (w.slots ch.slot).given ≡ end_count (due c s before ch.slot)
     pub items : last_items (w.slots ch.slot).given ≡ last_items (due c s before ch.slot)
 
-  -- then its client holds what is present
+  -- Then its client holds what is present, where its reader takes what the slot was told since the join: a message is a level around its payload. The
+  -- journal is shorter than 2 ^ 64 as above.
   abbrev pub GivenClientsAgree : Type 0
   GivenClientsAgree =
-      (steps : List Step) (later before : List Input) (ch : Channel) (o : Opening)
-      → (run c s steps start).journal ≡ later ++ before → IsUpTo (run c s steps start) before ch o
-      → IsPermutation (client_view [] (messages_on o.version ch.topic (last_items ((run c s steps start).slots ch.slot).given)))
+      (steps : List Step) (later before : List Input) (ch : Channel) (o : Opening) (levels : ℕ) (read : List ℕ → Option Json)
+      → (run c s steps start).journal ≡ later ++ before → length before < 2 ^ 64 → IsUpTo (run c s steps start) before ch o
+      → IsReader (suc levels) read → AllByRecursion (IsReadable levels) (said_since ch before)
+      → IsPermutation (client_view [] (messages_on read o.version ch.topic (last_items ((run c s steps start).slots ch.slot).given)))
       (map shown_meta (present_on c s before ch.topic))

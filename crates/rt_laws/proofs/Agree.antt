@@ -26,7 +26,7 @@ use Rattle.rt_laws.proofs.Grows.{remains_by}
 use Rattle.rt_laws.proofs.Sound.{IsBelow, members_in, no_members, members_more, members_apart, members_below, held_below, joins_well}
 use Rattle.rt_laws.proofs.Journals.{line_of, story_shaped, story_grows}
 use Rattle.rt_laws.proofs.Turns.{view_append}
-use Rattle.rt_laws.proofs.Opens.{NotEnds, IsOpen, open_after, stop_has}
+use Rattle.rt_laws.proofs.Opens.{Spares, IsOpen, open_after, stop_has}
 use Rattle.rt_laws.proofs.Starts.{Keeping, keeping}
 use Rattle.rt_laws.proofs.Clients.{story_length, tracks_next, held_after}
 
@@ -40,22 +40,22 @@ module _ (c : Catalog) (s : Settings) where
   unfolding story
   members_next journal i = members_more (line_of c s journal i) (story c s journal) (story_shaped c s (i ∷ journal))
 
-  joins_numbered : (journal : List Input) (i : Input) (ch : Channel) → Among (joins_of (done_by c s journal i)) ch → ch.number ≡ length journal
+  pub joins_numbered : (journal : List Input) (i : Input) (ch : Channel) → Among (joins_of (done_by c s journal i)) ch → ch.number ≡ length journal
   unfolding story
   joins_numbered journal i ch here =
       let w = joins_well (line_of c s journal i) (story c s journal) (story_shaped c s (i ∷ journal)) in
       all_among (λ (x : Channel). x.number ≡ length (story c s journal)) (joins_of (done_by c s journal i)) ch w.numbers here ∙ story_length c s journal
 
-  none_first : members_at (story c s []) ≡ []
+  pub none_first : members_at (story c s []) ≡ []
   unfolding story
   none_first = no_members
 
   -- each channel of a member's is there before the input or joins by it
-  abbrev Either : List Input → Input → Channel → Type 0
+  abbrev pub Either : List Input → Input → Channel → Type 0
   Either journal i ch =
       (Among (members_at (story c s journal)) ch × (has ch.number (departed_in (done_by c s journal i)) ≡ false)) ⊎ Among (joins_of (done_by c s journal i)) ch
 
-  either : (journal : List Input) (i : Input) (ch : Channel) → Among (members_at (story c s (i ∷ journal))) ch → Either journal i ch
+  pub either : (journal : List Input) (i : Input) (ch : Channel) → Among (members_at (story c s (i ∷ journal))) ch → Either journal i ch
   either journal i ch here =
       let old = members_at (story c s journal) in
       let parts = done_by c s journal i in
@@ -78,15 +78,15 @@ module _ (c : Catalog) (s : Settings) where
       keeping (now_of st) (held_below st sh) (members_apart st sh) held_open c s (tables_left c st i) i
 
   stays_put : (journal : List Input) (i : Input) (ch : Channel) → OpenSlots journal → Among (members_at (story c s journal)) ch
-      → has ch.number (departed_in (done_by c s journal i)) ≡ false → AllOf (NotEnds ch.slot) (done_by c s journal i)
+      → has ch.number (departed_in (done_by c s journal i)) ≡ false → AllOf (Spares ch.slot) (done_by c s journal i)
   unfolding now_of
   stays_put journal i ch held_open here stays =
       let st = story c s journal in
       let parts = done_by c s journal i in
       (kept_by journal i held_open).slots (member_in st ch) (map_among (member_in st) (members_at st) ch here) (ap (has ch.number) (append-nil (departed_in parts)) ∙ stays)
 
-  open_channel : (journal : List Input) (i : Input) (ch : Channel) → OpenSlots journal → Either journal i ch
-      → IsOpen (now_of (story c s journal)) ch.slot × AllOf (NotEnds ch.slot) (done_by c s journal i)
+  pub open_channel : (journal : List Input) (i : Input) (ch : Channel) → OpenSlots journal → Either journal i ch
+      → IsOpen (now_of (story c s journal)) ch.slot × AllOf (Spares ch.slot) (done_by c s journal i)
   open_channel journal i ch held_open (inl a) =
       let st = story c s journal in
       (held_open (member_in st ch) (map_among (member_in st) (members_at st) ch a.0), stays_put journal i ch held_open a.0 a.1)
@@ -135,28 +135,29 @@ module _ (c : Catalog) (s : Settings) where
       → told_since c s ch (i ∷ before) ≡ told_since c s ch before ++ heard c s before i ch
   told_more ch i before le = told_case ch i before (nat_le ch.number (length before)) refl le
 
-  none_told : (ch : Channel) (before : List Input) → length before ≤ ch.number → told_since c s ch before ≡ []
+  pub none_told : (ch : Channel) (before : List Input) → length before ≤ ch.number → told_since c s ch before ≡ []
   none_told ch [] le = refl
   none_told ch (i ∷ before) le =
       let no : nat_le ch.number (length before) ≡ false = elim (leb_tells ch.number (length before)) [ inl t ↦ let k = t.1 in absurd (omega arith) | inr t ↦ t.0 ] in
       ap (λ (x : Bool). elim x as (λ k. List Message) [ true ↦ told_since c s ch before ++ heard c s before i ch | false ↦ [] ]) no
 
-  abbrev Agrees : List Input → Channel → Type 0
-  Agrees journal ch =
-      Moves (client_view [] (told_since c s ch journal)) (map shown_meta (filter (λ (t : Track). bytes_eq t.topic ch.topic) (present_at (story c s journal))))
+  -- whatever it held before its join
+  abbrev pub Agrees : List Input → Channel → List Held → Type 0
+  Agrees journal ch held =
+      Moves (client_view held (told_since c s ch journal)) (map shown_meta (filter (λ (t : Track). bytes_eq t.topic ch.topic) (present_at (story c s journal))))
 
   -- one input later, where it holds what the input's tracks make
-  agrees_next : (journal : List Input) (i : Input) (ch : Channel) → ch.number ≤ length journal
-      → Moves (client_view (client_view [] (told_since c s ch journal)) (heard c s journal i ch)) (map shown_meta (filter (λ (t : Track). bytes_eq t.topic ch.topic) (tracks_after (present_at (story c s journal)) (done_by c s journal i))))
-      → Agrees (i ∷ journal) ch
-  agrees_next journal i ch le m =
+  agrees_next : (journal : List Input) (i : Input) (ch : Channel) (held : List Held) → ch.number ≤ length journal
+      → Moves (client_view (client_view held (told_since c s ch journal)) (heard c s journal i ch)) (map shown_meta (filter (λ (t : Track). bytes_eq t.topic ch.topic) (tracks_after (present_at (story c s journal)) (done_by c s journal i))))
+      → Agrees (i ∷ journal) ch held
+  agrees_next journal i ch held le m =
       let on : Track → Bool = λ t. bytes_eq t.topic ch.topic in
       let P : List Held → Type 0 = λ x. Moves x (map shown_meta (filter on (present_at (story c s (i ∷ journal))))) in
-      let Q : List Track → Type 0 = λ ts. Moves (client_view (client_view [] (told_since c s ch journal)) (heard c s journal i ch)) (map shown_meta (filter on ts)) in
-      subst P (sym (ap (client_view []) (told_more ch i journal le) ∙ view_append [] (told_since c s ch journal) (heard c s journal i ch)))
+      let Q : List Track → Type 0 = λ ts. Moves (client_view (client_view held (told_since c s ch journal)) (heard c s journal i ch)) (map shown_meta (filter on ts)) in
+      subst P (sym (ap (client_view held) (told_more ch i journal le) ∙ view_append held (told_since c s ch journal) (heard c s journal i ch)))
       (subst Q (sym (tracks_next c s journal i)) m)
 
-  member_number : (journal : List Input) (ch : Channel) → Among (members_at (story c s journal)) ch → ch.number < length journal
+  pub member_number : (journal : List Input) (ch : Channel) → Among (members_at (story c s journal)) ch → ch.number < length journal
   member_number journal ch here =
       let st = story c s journal in
       let P : ℕ → Type 0 = λ n. ch.number < n in
@@ -167,25 +168,25 @@ module _ (c : Catalog) (s : Settings) where
   unfolding answers_by now_of
   started journal i ch joins enabled held = (kept_by journal i (open_slots journal)).starts ch joins enabled held
 
-  agrees_by : (journal : List Input) (i : Input) (ch : Channel) → length journal < 2 ^ 64 → ch.presence ≡ true
-      → (Among (members_at (story c s journal)) ch → Agrees journal ch) → Either journal i ch → Agrees (i ∷ journal) ch
-  agrees_by journal i ch short enabled before (inl a) =
+  agrees_by : (journal : List Input) (i : Input) (ch : Channel) (held : List Held) → length journal < 2 ^ 64 → ch.presence ≡ true
+      → (Among (members_at (story c s journal)) ch → Agrees journal ch held) → Either journal i ch → Agrees (i ∷ journal) ch held
+  agrees_by journal i ch held short enabled before (inl a) =
       let st = story c s journal in
       let h = member_in st ch in
       let here = map_among (member_in st) (members_at st) ch a.0 in
       let lt = member_number journal ch a.0 in
-      agrees_next journal i ch (omega arith) (held_after c s journal i h short (no_stop journal i h here a.1) here enabled (client_view [] (told_since c s ch journal)) a.1 (before a.0))
-  agrees_by journal i ch short enabled before (inr b) =
+      agrees_next journal i ch held (omega arith) (held_after c s journal i h short (no_stop journal i h here a.1) here enabled (client_view held (told_since c s ch journal)) a.1 (before a.0))
+  agrees_by journal i ch held short enabled before (inr b) =
       let e = joins_numbered journal i ch b in
-      agrees_next journal i ch (omega arith) (started journal i ch b enabled (client_view [] (told_since c s ch journal)))
+      agrees_next journal i ch held (omega arith) (started journal i ch b enabled (client_view held (told_since c s ch journal)))
 
-  agrees : (journal : List Input) (ch : Channel) → length journal < 2 ^ 64 → Among (members_at (story c s journal)) ch → ch.presence ≡ true
-      → Agrees journal ch
-  agrees [] ch short here enabled = absurd (let P : List Channel → Type 0 = λ chs. Among chs ch in subst P none_first here)
-  agrees (i ∷ journal) ch short here enabled =
+  pub agrees : (journal : List Input) (ch : Channel) (held : List Held) → length journal < 2 ^ 64 → Among (members_at (story c s journal)) ch → ch.presence ≡ true
+      → Agrees journal ch held
+  agrees [] ch held short here enabled = absurd (let P : List Channel → Type 0 = λ chs. Among chs ch in subst P none_first here)
+  agrees (i ∷ journal) ch held short here enabled =
       let less : length journal < 2 ^ 64 = omega arith in
-      agrees_by journal i ch less enabled (λ a. agrees journal ch less a enabled) (either journal i ch here)
+      agrees_by journal i ch held less enabled (λ a. agrees journal ch held less a enabled) (either journal i ch here)
 
   pub clients_agree : (journal : List Input) → ClientsAgree c s journal
   clients_agree journal short ch known enabled =
-      permuted _ _ (agrees journal ch short (from_contains (members_at (story c s journal)) ch known) enabled)
+      permuted _ _ (agrees journal ch [] short (from_contains (members_at (story c s journal)) ch known) enabled)

@@ -21,9 +21,11 @@ mod Once
 mod Opens
 pub mod Plain
 mod Present
+mod Read
 mod Sent
 pub mod Shapes
 pub mod Sound
+mod Since
 mod Starts
 mod Tracked
 mod Turns

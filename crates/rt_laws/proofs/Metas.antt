@@ -77,7 +77,7 @@ rows_are : {n : _} → (row : Row_of-Json n) → row_items row ≡ items-the_row
 rows_are end_of-Json = refl
 rows_are (more_of-Json tree rest) = ap (λ (xs : List Json). tree ∷ xs) (rows_are rest)
 
-list_items : (xs : List Json) → list_of (j.List xs) ≡ Some xs
+pub list_items : (xs : List Json) → list_of (j.List xs) ≡ Some xs
 list_items xs = ap (λ (ys : List Json). Some ys) (rows_are (hidden-the_row-Json-0 xs) ∙ items_hidden-the_row-Json-0 xs)
 
 -- the metas under a key

@@ -21,20 +21,20 @@ use Rattle.rt_laws.proofs.Shapes.{eqb_same, or_left}
 use Rattle.rt_laws.proofs.Sound.{has_append}
 use Rattle.rt_laws.proofs.Turns.{has_turn, or_second}
 
--- it doesn't end the slot
-abbrev pub NotEnds : ℕ → Part → Type 0
-NotEnds slot (Opens s o) = ⊤
-NotEnds slot (Ends s name) = (s == slot) ≡ false
-NotEnds slot (Tells s m) = ⊤
-NotEnds slot (Joins ch) = ⊤
-NotEnds slot (Renews m role claims) = ⊤
-NotEnds slot (Tracks t) = ⊤
-NotEnds slot (Untracks m) = ⊤
-NotEnds slot (Departs m) = ⊤
+-- it neither opens nor ends the slot
+abbrev pub Spares : ℕ → Part → Type 0
+Spares slot (Opens s o) = (s == slot) ≡ false
+Spares slot (Ends s name) = (s == slot) ≡ false
+Spares slot (Tells s m) = ⊤
+Spares slot (Joins ch) = ⊤
+Spares slot (Renews m role claims) = ⊤
+Spares slot (Tracks t) = ⊤
+Spares slot (Untracks m) = ⊤
+Spares slot (Departs m) = ⊤
 
--- it ends no slot, and nobody joins
+-- it opens and ends no slot, and nobody joins
 abbrev pub Still : Part → Type 0
-Still (Opens s o) = ⊤
+Still (Opens s o) = ⊥
 Still (Ends s name) = ⊥
 Still (Tells s m) = ⊤
 Still (Joins ch) = ⊥
@@ -43,9 +43,9 @@ Still (Tracks t) = ⊤
 Still (Untracks m) = ⊤
 Still (Departs m) = ⊤
 
-pub still_on : (slot : ℕ) (ps : List Part) → AllOf Still ps → AllOf (NotEnds slot) ps
+pub still_on : (slot : ℕ) (ps : List Part) → AllOf Still ps → AllOf (Spares slot) ps
 still_on slot [] a = tt
-still_on slot (Opens s o ∷ ps) a = (tt, still_on slot ps a.1)
+still_on slot (Opens s o ∷ ps) a = absurd a.0
 still_on slot (Ends s e ∷ ps) a = absurd a.0
 still_on slot (Tells s m ∷ ps) a = (tt, still_on slot ps a.1)
 still_on slot (Joins c ∷ ps) a = absurd a.0
@@ -56,7 +56,7 @@ still_on slot (Departs k ∷ ps) a = (tt, still_on slot ps a.1)
 
 pub still_joins : (ps : List Part) → AllOf Still ps → joins_of ps ≡ []
 still_joins [] a = refl
-still_joins (Opens s o ∷ ps) a = still_joins ps a.1
+still_joins (Opens s o ∷ ps) a = absurd a.0
 still_joins (Ends s e ∷ ps) a = absurd a.0
 still_joins (Tells s m ∷ ps) a = still_joins ps a.1
 still_joins (Joins c ∷ ps) a = absurd a.0
@@ -65,15 +65,12 @@ still_joins (Tracks t ∷ ps) a = still_joins ps a.1
 still_joins (Untracks k ∷ ps) a = still_joins ps a.1
 still_joins (Departs k ∷ ps) a = still_joins ps a.1
 
--- an open slot that doesn't end is open behind the parts
-stays_open : (slot : ℕ) (ps : List Part) (o : Opening) → AllOf (NotEnds slot) ps → (x : Opening) × (opened_after slot ps (Some o) ≡ Some x)
-stays_open slot [] o a = (o, refl)
-stays_open slot (Opens s p ∷ ps) o a = elim (s == slot) as (λ b. (x : Opening) × (opened_after slot ps (if b then Some p else Some o) ≡ Some x)) [
-  | true ↦ stays_open slot ps p a.1
-  | false ↦ stays_open slot ps o a.1
-]
-stays_open slot (Ends s e ∷ ps) o a =
-    let r = stays_open slot ps o a.1 in (r.0, ap (λ (b : Bool). opened_after slot ps (if b then None else Some o)) a.0 ∙ r.1)
+-- an opening that isn't ended stands behind the parts
+pub stays_open : (slot : ℕ) (ps : List Part) (o : Opening) → AllOf (Spares slot) ps → opened_after slot ps (Some o) ≡ Some o
+stays_open slot [] o a = refl
+stays_open slot (Opens s p ∷ ps) o a =
+    ap (λ (b : Bool). opened_after slot ps (if b then Some p else Some o)) a.0 ∙ stays_open slot ps o a.1
+stays_open slot (Ends s e ∷ ps) o a = ap (λ (b : Bool). opened_after slot ps (if b then None else Some o)) a.0 ∙ stays_open slot ps o a.1
 stays_open slot (Tells s m ∷ ps) o a = stays_open slot ps o a.1
 stays_open slot (Joins c ∷ ps) o a = stays_open slot ps o a.1
 stays_open slot (Renews k r c ∷ ps) o a = stays_open slot ps o a.1
@@ -109,13 +106,13 @@ held_there : (o : Option (Option Opening)) (x : Opening) → or_none o ≡ Some 
 held_there None x e = absurd (cc)
 held_there (Some o) x e = ap (λ (y : Option Opening). Some y) e
 
-pub open_after : (now : Now) (i : Input) (ps : List Part) (slot : ℕ) → IsOpen now slot → AllOf (NotEnds slot) ps → IsOpen (after now i ps) slot
+pub open_after : (now : Now) (i : Input) (ps : List Part) (slot : ℕ) → IsOpen now slot → AllOf (Spares slot) ps → IsOpen (after now i ps) slot
 unfolding after
 open_after now i ps slot held_open a =
     let at = at_place (opens_after i now.moment ps) 0 now.opens slot (Some held_open.0) (held_there (slice_get now.opens slot) held_open.0 held_open.1) in
     let zero_more : 0 + slot ≡ slot = omega arith in
-    let r = stays_open slot ps (heard_in i now.moment slot held_open.0) a in
-    (r.0, ap (λ (x : Option (Option Opening)). or_none x) (at ∙ ap (λ (n : ℕ). Some (opens_after i now.moment ps (n, Some held_open.0))) zero_more) ∙ r.1)
+    let heard = heard_in i now.moment slot held_open.0 in
+    (heard, ap (λ (x : Option (Option Opening)). or_none x) (at ∙ ap (λ (n : ℕ). Some (opens_after i now.moment ps (n, Some held_open.0))) zero_more) ∙ stays_open slot ps heard a)
 
 still_turn : {A : Type 0} (act : List ℕ → A → List Part) → ((gone : List ℕ) (x : A) → AllOf Still (act gone x)) → (gone : List ℕ) (xs : List A)
     → AllOf Still (in_turn act gone xs)
@@ -169,10 +166,10 @@ module _ (now : Now) where
       let own = filter_among (is_of_slot slot) now.members h here (ap (λ (n : ℕ). n == slot) e ∙ eqb_same slot) in
       has_append h.channel.number ds (Ends slot name ∷ []) ∙ or_left (has h.channel.number (departed_in ds)) _ (turn_has gone (channels_of now slot) h own)
 
-  -- where a member doesn't depart its slot doesn't end
+  -- where a member doesn't depart its slot is left alone
   abbrev pub Keeps : List Part → List ℕ → Type 0
   Keeps ps gone =
-      (h : Member) → Among now.members h → has h.channel.number (departed_in ps ++ gone) ≡ false → AllOf (NotEnds h.channel.slot) ps
+      (h : Member) → Among now.members h → has h.channel.number (departed_in ps ++ gone) ≡ false → AllOf (Spares h.channel.slot) ps
 
   pub keeps_still : (ps : List Part) (gone : List ℕ) → AllOf Still ps → Keeps ps gone
   keeps_still ps gone a h here stays = still_on h.channel.slot ps a
@@ -185,7 +182,7 @@ module _ (now : Now) where
       let ds : departed_in (ps ++ qs) ≡ dp ++ dq = filter_map-append departed_by ps qs in
       let stays_on : has n (dq ++ (dp ++ gone)) ≡ false = sym (ap (λ (xs : List ℕ). has n (xs ++ gone)) ds ∙ has_turn n dp dq gone) ∙ stays in
       let before : has n (dp ++ gone) ≡ false = or_second (has n dq) (has n (dp ++ gone)) (sym (any_append (λ j. j == n) dq (dp ++ gone)) ∙ stays_on) in
-      all_append (NotEnds h.channel.slot) ps qs (a h here before) (b h here stays_on)
+      all_append (Spares h.channel.slot) ps qs (a h here before) (b h here stays_on)
 
   keeps_each : {A : Type 0} (act : List ℕ → A → List Part) → ((gone : List ℕ) (x : A) → Keeps (act gone x) gone) → (gone : List ℕ) (xs : List A)
       → Keeps (in_turn act gone xs) gone
@@ -194,10 +191,10 @@ module _ (now : Now) where
       let next = departed_in (act gone x) ++ gone in
       keeps_then (act gone x) (in_turn act next xs) gone (f gone x) (keeps_each act f next xs) h here stays
 
-  end_other : (gone : List ℕ) (slot k : ℕ) (name : EndName) → (slot == k) ≡ false → AllOf (NotEnds k) (end_of now gone slot name)
+  end_other : (gone : List ℕ) (slot k : ℕ) (name : EndName) → (slot == k) ≡ false → AllOf (Spares k) (end_of now gone slot name)
   end_other gone slot k name ne =
       let ds = in_turn (depart now) gone (channels_of now slot) in
-      all_append (NotEnds k) ds (Ends slot name ∷ []) (still_on k ds (still_turn (depart now) still_depart gone (channels_of now slot))) (ne, tt)
+      all_append (Spares k) ds (Ends slot name ∷ []) (still_on k ds (still_turn (depart now) still_depart gone (channels_of now slot))) (ne, tt)
 
   pub keeps_end : (gone : List ℕ) (slot : ℕ) (name : EndName) → Keeps (end_of now gone slot name) gone
   keeps_end gone slot name h here stays =
@@ -229,7 +226,7 @@ module _ (now : Now) where
   pub keeps_ticks : (moment : ℕ) (xs : List (ℕ × Option Opening)) → Keeps (in_turn (tick_parts now moment) [] xs) []
   keeps_ticks moment xs = keeps_each (tick_parts now moment) (keeps_tick moment) [] xs
 
-  end_if_other : (slot k : ℕ) (name : EndName) (o : Option Opening) → (slot == k) ≡ false → AllOf (NotEnds k) (end_if_open now slot name o)
+  end_if_other : (slot k : ℕ) (name : EndName) (o : Option Opening) → (slot == k) ≡ false → AllOf (Spares k) (end_if_open now slot name o)
   end_if_other slot k name None ne = tt
   end_if_other slot k name (Some o) ne = end_other [] slot k name ne
 
@@ -251,8 +248,8 @@ module _ (now : Now) where
               has_append n front (Opens slot o ∷ last) ∙ or_left (has n (departed_in front)) _ departs in
               absurd (let z : true ≡ false = sym all ∙ sym (ap (has n) (append-nil (departed_in (front ++ Opens slot o ∷ last)))) ∙ stays in cc)
           | inr t ↦
-              all_append (NotEnds k) front (Opens slot o ∷ last) (end_if_other slot k end_name.Replaced (opening_in now slot) t.0)
-              (tt, elim now.stopped as (λ b. AllOf (NotEnds k) (if b then Ends slot end_name.Stopped ∷ [] else [])) [ true ↦ (t.0, tt) | false ↦ tt ])
+              all_append (Spares k) front (Opens slot o ∷ last) (end_if_other slot k end_name.Replaced (opening_in now slot) t.0)
+              (t.0, elim now.stopped as (λ b. AllOf (Spares k) (if b then Ends slot end_name.Stopped ∷ [] else [])) [ true ↦ (t.0, tt) | false ↦ tt ])
         ]
 
     departs_has : (gs : List Member) (h : Member) → Among gs h → has h.channel.number (departed_in (map departs_of gs)) ≡ true

@@ -41,7 +41,7 @@ use Rattle.rt_laws.proofs.Shapes.{AreApart, Below, IsMade, Plain, join_made, eqb
 use Rattle.rt_laws.proofs.Sound.{plain_joins}
 use Rattle.rt_laws.proofs.Hears.{hears, hears_append, none_leave}
 use Rattle.rt_laws.proofs.Turns.{IsMute, mute_departs, mute_tracks, none_track, view_append}
-use Rattle.rt_laws.proofs.Opens.{NotEnds, Still, still_on, still_joins, IsOpen, Keeps, keeps_still, keeps_end, keeps_end_if, keeps_ticks, keeps_open, stop_has, still_diffs, still_leave, still_close, still_fail, still_closing}
+use Rattle.rt_laws.proofs.Opens.{Spares, Still, still_on, still_joins, IsOpen, Keeps, keeps_still, keeps_end, keeps_end_if, keeps_ticks, keeps_open, stop_has, still_diffs, still_leave, still_close, still_fail, still_closing}
 
 still_tell_if : (b : Bool) (slot : ℕ) (m : Message) → AllOf Still (tell_if b slot m)
 still_tell_if true slot m = (tt, tt)
@@ -158,7 +158,7 @@ module _ (now : Now) where
   -- what the parts of an input keep
   pub record Keeping (ps : List Part) : Type 0 where
     pub slots : Keeps now ps []
-    pub joins : (ch : Channel) → Among (joins_of ps) ch → IsOpen now ch.slot × AllOf (NotEnds ch.slot) ps
+    pub joins : (ch : Channel) → Among (joins_of ps) ch → IsOpen now ch.slot × AllOf (Spares ch.slot) ps
     pub starts : Starts ps
 
   keeping_without : (ps : List Part) → Keeps now ps [] → joins_of ps ≡ [] → Keeping ps
@@ -193,11 +193,11 @@ module _ (now : Now) where
       let still_back : AllOf Still back =
       (tt, all_append Still subscribed state (still_tell_if (has_bindings ch) ch.slot (subscribed_message ch)) (still_tell_if ch.presence ch.slot (presence_state ch (present_on now gone ch.topic)))) in
       let still_front = still_closing now (option_to_list o) in
-      let ends : (k : ℕ) → AllOf (NotEnds k) all = λ k. all_append (NotEnds k) front (Joins ch ∷ back) (still_on k front still_front) (tt, still_on k back still_back) in
+      let ends : (k : ℕ) → AllOf (Spares k) all = λ k. all_append (Spares k) front (Joins ch ∷ back) (still_on k front still_front) (tt, still_on k back still_back) in
       let joins : joins_of all ≡ ch ∷ [] =
       filter_map-append joined_by front (Joins ch ∷ back) ∙ ap (λ (js : List Channel). js ++ (ch ∷ joins_of back)) (still_joins front still_front)
       ∙ ap (λ (js : List Channel). ch ∷ js) (still_joins back still_back) in
-      let P : Channel → Type 0 = λ x. IsOpen now x.slot × AllOf (NotEnds x.slot) all in
+      let P : Channel → Type 0 = λ x. IsOpen now x.slot × AllOf (Spares x.slot) all in
       let Q : Channel → Type 0 = λ x. x.presence ≡ true → (held : List Held) → Moves (client_view held (hears x all)) (map shown_meta (filter (on x) (tracks_after now.tracks all))) in
       let one : (x : Channel) → Among (joins_of all) x → ch ≡ x = λ x i.
       let R : List Channel → Type 0 = λ js. Among js x in elim (subst R joins i) [ inl e ↦ e | inr j ↦ absurd j ] in

@@ -2,7 +2,7 @@ ghost use Rattle.std.specs.Prelude.{List};
 ghost use Rattle.rt_catalog.specs.declared.catalog.Catalog.{Catalog as CatalogData};
 ghost use Rattle.rt_entry.specs.declared.input.Settings.{Settings as SettingsData};
 ghost use Rattle.rt_entry.specs.declared.input.Input.{Input as InputData};
-ghost use Rattle.rt_entry.specs.Presence.{ClientsAgree};
+ghost use Rattle.rt_entry.specs.Presence.{ClientsAgree, GivenClientsAgree};
 ghost use Rattle.rt_laws.specs.Departures.{DeparturesAreTold};
 ghost use Rattle.rt_laws.specs.Follows.{ClientsFollow};
 ghost use Rattle.rt_laws.specs.Views.{StatesAreRead};
@@ -28,4 +28,10 @@ pub fn clients_follow()
 /// topic, up to order.
 pub fn clients_agree()
     ensures { (c : CatalogData) (s : SettingsData) (journal : List InputData) → ClientsAgree c s journal }
+{}
+
+/// The same of what a slot was given after any list of steps: where that is, of the slot's opening, exactly what is due by the inputs so far, its client
+/// holds what is present on the topic of each member with presence enabled, by whatever reader takes what the slot was told since the join.
+pub fn given_clients_agree()
+    ensures { (c : CatalogData) (s : SettingsData) → GivenClientsAgree c s }
 {}

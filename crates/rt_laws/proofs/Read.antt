@@ -1,0 +1,162 @@
+-- What a client holds by what its slot was given.
+use Rattle.std.proofs.Common.{◌≡◌, ℕ, zero, suc, ◌<◌, Bool, true, false, List, [], ◌∷◌, ◌++◌, map, length, Option, Some, None, refl, sym, ap, subst, ◌∙◌}
+use Rattle.std.specs.Prelude.{◌^◌, codes, unwrap_or, IsPermutation, IsUtf8}
+use Rattle.std.specs.List.{filter, filter_map, cons_option, AllByRecursion}
+use Rattle.std.specs.Str.{bytes_eq}
+use Rattle.std.proofs.lemmas.List.Elements.{filter-append, filter_map-append}
+use Rattle.rt_value.specs.Choice.{◌>>=◌}
+use Rattle.rt_json.specs.declared.tree.Json.{Json, Null, Num, Text}
+use Rattle.rt_json.specs.declared.tree.Json.TheVariants.{outs-Null, outs-Text, outs-Num, outs-List, outs-Object}
+use Rattle.rt_json.specs.declared.tree.Json.TheVariants as j
+use Rattle.rt_json.specs.declared.tree.named.Member.{Member}
+use Rattle.rt_json.specs.Fits.{FitsWithin, FitsFlat, FitsOver}
+use Rattle.rt_json.specs.Grammar.{IsWithin}
+use Rattle.rt_json.specs.Lookup.{member_of}
+use Rattle.rt_json.specs.Text.{IsNumber}
+use Rattle.rt_json.specs.Trees.{field, text_of, list_of}
+use Rattle.rt_json.specs.Written.{written}
+use Rattle.rt_phx.specs.declared.message.Message.{Message}
+use Rattle.rt_phx.specs.declared.message.Version.{Version}
+use Rattle.rt_phx.specs.declared.message.Version.TheVariants.{V1, V2}
+use Rattle.rt_phx.specs.Fits.{IsRef}
+use Rattle.rt_phx.specs.Frame.{ref_of, no_members, message, message_of_five, message_of_tree, spelled, tree_of_message}
+use Rattle.rt_catalog.specs.declared.catalog.Catalog.{Catalog}
+use Rattle.rt_entry.specs.declared.input.Input.{Input}
+use Rattle.rt_entry.specs.declared.input.Settings.{Settings}
+use Rattle.rt_entry.specs.declared.input.Step.{Step}
+use Rattle.rt_entry.specs.declared.story.Opening.{Opening}
+use Rattle.rt_entry.specs.declared.story.Channel.{Channel}
+use Rattle.rt_entry.specs.declared.answer.Item.{Item}
+use Rattle.rt_entry.specs.declared.answer.Item.TheVariants as item
+use Rattle.rt_entry.specs.Story.{members_at}
+use Rattle.rt_entry.specs.Doings.{story}
+use Rattle.rt_entry.specs.Machine.{start, run}
+use Rattle.rt_entry.specs.Presence.{Held, after_message, client_view, shown_meta, present_on, told_since, last_items, message_in, messages_on, IsReader, IsReadable, said_since, IsUpTo, GivenClientsAgree}
+use Rattle.rt_laws.proofs.Among.{from_contains}
+use Rattle.rt_laws.proofs.Plain.{filter_map_swap}
+use Rattle.rt_laws.proofs.Moves.{Moves, permuted}
+use Rattle.rt_laws.proofs.Metas.{list_items}
+use Rattle.rt_laws.proofs.Columns.{object_at}
+use Rattle.rt_laws.proofs.Turns.{view_append}
+use Rattle.rt_laws.proofs.Agree.{agrees}
+use Rattle.rt_laws.proofs.Since.{as_items, due_since, since_on}
+
+-- what is read of a message: version 1 doesn't write the join_ref
+abbrev read_as : Version → Message → Message
+read_as V1 m = record m { join_ref = Null }
+read_as V2 m = m
+
+ref_same : (r : Json) → IsRef r → ref_of r ≡ Some r
+ref_same Null h = refl
+ref_same (Text t) h = refl
+ref_same (Num n) h = refl
+ref_same _ h = absurd h
+
+text_fits : (levels : ℕ) (t : List ℕ) → IsUtf8 t → FitsWithin levels (Text t)
+text_fits zero t h = subst FitsFlat (sym (outs-Text t)) h
+text_fits (suc n) t h = subst (FitsOver (FitsWithin n)) (sym (outs-Text t)) h
+
+null_fits : (levels : ℕ) → FitsWithin levels Null
+null_fits zero = subst FitsFlat (sym outs-Null) tt
+null_fits (suc n) = subst (FitsOver (FitsWithin n)) (sym outs-Null) tt
+
+number_fits : (levels : ℕ) (digits : List ℕ) → IsNumber digits → FitsWithin levels (Num digits)
+number_fits zero digits h = subst FitsFlat (sym (outs-Num digits)) h
+number_fits (suc n) digits h = subst (FitsOver (FitsWithin n)) (sym (outs-Num digits)) h
+
+ref_fits : (levels : ℕ) (r : Json) → IsRef r → FitsWithin levels r
+ref_fits levels Null h = null_fits levels
+ref_fits levels (Text t) h = text_fits levels t h
+ref_fits levels (Num n) h = number_fits levels n h
+ref_fits levels _ h = absurd h
+
+names_fit : IsUtf8 (codes "topic") × IsUtf8 (codes "event") × IsUtf8 (codes "payload") × IsUtf8 (codes "ref")
+unfolding lib.Utf8.encode
+names_fit = ((codes "topic", (refl, refl)), (codes "event", (refl, refl)), (codes "payload", (refl, refl)), (codes "ref", (refl, refl)))
+
+abbrev five : Message → List Json
+five m = m.join_ref ∷ m.reference ∷ Text m.topic ∷ Text m.event ∷ m.payload ∷ []
+
+abbrev four : Message → List Member
+four m = field (codes "topic") (Text m.topic) ∷ field (codes "event") (Text m.event) ∷ field (codes "payload") m.payload ∷ field (codes "ref") m.reference ∷ []
+
+tree_fits : (levels : ℕ) (v : Version) (m : Message) → IsReadable levels m → FitsWithin (suc levels) (tree_of_message v m)
+tree_fits n V1 m f =
+    subst (FitsOver (FitsWithin n)) (sym (outs-Object (four m)))
+    ((names_fit.0, text_fits n m.topic f.topic), ((names_fit.1, text_fits n m.event f.event), ((names_fit.2, f.payload), ((names_fit.3, ref_fits n m.reference f.reference), tt))))
+tree_fits n V2 m f =
+    subst (FitsOver (FitsWithin n)) (sym (outs-List (five m)))
+    (ref_fits n m.join_ref f.join_ref, (ref_fits n m.reference f.reference, (text_fits n m.topic f.topic, (text_fits n m.event f.event, (f.payload, tt)))))
+
+tree_says : (levels : ℕ) (v : Version) (m : Message) → IsReadable levels m → message_of_tree v (tree_of_message v m) ≡ Some (read_as v m)
+tree_says levels V1 m f =
+    let tree = j.Object (four m) in
+    let out : Option Json → Option Json → Option Json → Option Json → Option Json → Option Message = λ topic event join_ref reference payload.
+    (topic >>= text_of) >>= λ t. (event >>= text_of) >>= λ e. ref_of (unwrap_or join_ref Null) >>= λ a. ref_of (unwrap_or reference Null) >>= λ b.
+    Some (message a b t e (unwrap_or payload no_members)) in
+    let at : List ℕ → Option Json = member_of tree in
+    ap (λ (o : Option Json). out o (at (codes "event")) (at (codes "join_ref")) (at (codes "ref")) (at (codes "payload"))) (object_at (four m) (codes "topic"))
+    ∙ ap (λ (o : Option Json). out (Some (Text m.topic)) o (at (codes "join_ref")) (at (codes "ref")) (at (codes "payload"))) (object_at (four m) (codes "event"))
+    ∙ ap (λ (o : Option Json). out (Some (Text m.topic)) (Some (Text m.event)) o (at (codes "ref")) (at (codes "payload"))) (object_at (four m) (codes "join_ref"))
+    ∙ ap (λ (o : Option Json). out (Some (Text m.topic)) (Some (Text m.event)) None o (at (codes "payload"))) (object_at (four m) (codes "ref"))
+    ∙ ap (λ (o : Option Json). out (Some (Text m.topic)) (Some (Text m.event)) None (Some m.reference) o) (object_at (four m) (codes "payload"))
+    ∙ ap (λ (o : Option Json). o >>= λ b. Some (message Null b m.topic m.event m.payload)) (ref_same m.reference f.reference)
+tree_says levels V2 m f =
+    ap (λ (o : Option (List Json)). o >>= message_of_five) (list_items (five m))
+    ∙ ap (λ (o : Option Json). o >>= λ a. ref_of m.reference >>= λ b. Some (message a b m.topic m.event m.payload)) (ref_same m.join_ref f.join_ref)
+    ∙ ap (λ (o : Option Json). o >>= λ b. Some (message m.join_ref b m.topic m.event m.payload)) (ref_same m.reference f.reference)
+
+same_topic : (v : Version) (topic : List ℕ) (ms : List Message)
+    → filter (λ (m : Message). bytes_eq m.topic topic) (map (read_as v) ms) ≡ map (read_as v) (filter (λ (m : Message). bytes_eq m.topic topic) ms)
+same_topic V1 topic ms = filter_map_swap (λ (m : Message). bytes_eq m.topic topic) (read_as V1) ms
+same_topic V2 topic ms = filter_map_swap (λ (m : Message). bytes_eq m.topic topic) (read_as V2) ms
+
+same_view : (v : Version) (held : List Held) (ms : List Message) → client_view held (map (read_as v) ms) ≡ client_view held ms
+same_view v held [] = refl
+same_view V1 held (m ∷ ms) = same_view V1 (after_message held m) ms
+same_view V2 held (m ∷ ms) = same_view V2 (after_message held m) ms
+
+-- what is written of a tree is the tree's text
+pub record IsWritten (levels : ℕ) : Type 0 where
+  pub text : (tree : Json) → FitsWithin (suc levels) tree → IsWithin (suc levels) tree (written tree)
+
+module _ (levels : ℕ) (read : List ℕ → Option Json) (reader : IsReader (suc levels) read) (writes : IsWritten levels) where
+  reads_one : (v : Version) (m : Message) → IsReadable levels m → message_in read v (item.Message (spelled v m)) ≡ Some (read_as v m)
+  reads_one v m f =
+      let tree = tree_of_message v m in
+      ap (λ (o : Option Json). o >>= message_of_tree v) (reader.reads (written tree) tree (writes.text tree (tree_fits levels v m f))) ∙ tree_says levels v m f
+
+  reads_all : (v : Version) (ms : List Message) → AllByRecursion (IsReadable levels) ms
+      → filter_map (message_in read v) (as_items v ms) ≡ map (read_as v) ms
+  reads_all v [] f = refl
+  reads_all v (m ∷ ms) f =
+      ap (λ (o : Option Message). cons_option o (filter_map (message_in read v) (as_items v ms))) (reads_one v m f.0)
+      ∙ ap (λ (xs : List Message). read_as v m ∷ xs) (reads_all v ms f.1)
+
+  module _ (c : Catalog) (s : Settings) where
+    agrees_at : (given : List Item) (before : List Input) (ch : Channel) (o : Opening) (front : List Item) → length before < 2 ^ 64
+        → given ≡ front ++ as_items o.version (said_since c s ch before) → AllByRecursion (IsReadable levels) (said_since c s ch before)
+        → ((held : List Held) → Moves (client_view held (told_since c s ch before)) (map shown_meta (present_on c s before ch.topic)))
+        → Moves (client_view [] (messages_on read o.version ch.topic given)) (map shown_meta (present_on c s before ch.topic))
+    agrees_at given before ch o front short e readable agree =
+        let v = o.version in
+        let said = said_since c s ch before in
+        let on : Message → Bool = λ m. bytes_eq m.topic ch.topic in
+        let early = filter on (filter_map (message_in read v) front) in
+        let held = client_view [] early in
+        let heard : messages_on read v ch.topic given ≡ early ++ map (read_as v) (told_since c s ch before) =
+        ap (messages_on read v ch.topic) e
+        ∙ ap (filter on) (filter_map-append (message_in read v) front (as_items v said) ∙ ap (λ (ms : List Message). filter_map (message_in read v) front ++ ms) (reads_all v said readable))
+        ∙ filter-append on (filter_map (message_in read v) front) (map (read_as v) said)
+        ∙ ap (λ (ms : List Message). early ++ ms) (same_topic v ch.topic said ∙ ap (map (read_as v)) (since_on c s ch before)) in
+        let is : client_view [] (messages_on read v ch.topic given) ≡ client_view held (told_since c s ch before) =
+        ap (client_view []) heard ∙ view_append [] early (map (read_as v) (told_since c s ch before)) ∙ same_view v held (told_since c s ch before) in
+        let P : List Held → Type 0 = λ x. Moves x (map shown_meta (present_on c s before ch.topic)) in
+        subst P (sym is) (agree held)
+
+pub given_agree : (c : Catalog) (s : Settings) → ((levels : ℕ) → IsWritten levels) → GivenClientsAgree c s
+given_agree c s writes steps later before ch o levels read taken short u reader readable =
+    let here = from_contains (members_at (story c s before)) ch u.member in
+    let d = due_since c s before ch o here u.opening in
+    permuted _ _
+    (agrees_at levels read reader (writes levels) c s (last_items ((run c s steps start).slots ch.slot).given) before ch o d.0 short (u.items ∙ d.1) readable (λ held. agrees c s before ch held short here u.enabled))
