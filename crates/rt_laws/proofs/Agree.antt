@@ -1,6 +1,6 @@
 -- What clients hold over whole journals.
 use Rattle.std.proofs.Common.{◌≡◌, ◌⊎◌, ℕ, ◌<◌, ◌≤◌, Bool, true, false, not, List, [], ◌∷◌, ◌++◌, map, length, refl, sym, ap, subst, ◌∙◌, append-nil, arith, inl, inr}
-use Rattle.std.specs.Prelude.{◌^◌, nat_le}
+use Rattle.std.specs.Prelude.{◌^◌, nat_le, Contains}
 use Rattle.std.specs.List.{filter}
 use Rattle.std.specs.Str.{bytes_eq}
 use Rattle.std.proofs.lemmas.Bool.Decides.{leb_tells}
@@ -19,6 +19,7 @@ use Rattle.rt_entry.specs.Presence.{Held, client_view, shown_meta, told_since, C
 use Rattle.rt_laws.specs.After.{joins_of, tracks_after, done_by}
 use Rattle.rt_laws.specs.Departures.{heard}
 use Rattle.rt_laws.specs.Follows.{IsNoStop}
+use Rattle.rt_laws.specs.Members.{members_of_journal}
 use Rattle.rt_laws.proofs.Among.{Among, from_contains, among_either, among_filter, among_map, map_among}
 use Rattle.rt_laws.proofs.Plain.{AllOf, all_among}
 use Rattle.rt_laws.proofs.Moves.{Moves, permuted}
@@ -110,6 +111,10 @@ module _ (c : Catalog) (s : Settings) where
   pub open_slots : (journal : List Input) → OpenSlots journal
   open_slots [] h here = absurd (none_there h here)
   open_slots (i ∷ journal) h here = open_more journal i (open_slots journal) h here
+
+  pub slots_open : (journal : List Input) (h : Member) → Contains (members_of_journal c s journal) h → IsOpen (now_of (story c s journal)) h.channel.slot
+  unfolding now_of
+  slots_open journal h known = open_slots journal h (from_contains (members_in (story c s journal)) h known)
 
   -- a stop lets nobody stay
   no_stop : (journal : List Input) (i : Input) (h : Member) → Among (members_in (story c s journal)) h

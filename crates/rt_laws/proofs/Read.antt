@@ -1,6 +1,6 @@
 -- What a client holds by what its slot was given.
-use Rattle.std.proofs.Common.{◌≡◌, ℕ, zero, suc, ◌<◌, Bool, true, false, List, [], ◌∷◌, ◌++◌, map, length, Option, Some, None, refl, sym, ap, subst, ◌∙◌}
-use Rattle.std.specs.Prelude.{◌^◌, codes, unwrap_or, IsPermutation, IsUtf8}
+use Rattle.std.proofs.Common.{◌≡◌, ℕ, zero, suc, ◌<◌, Bool, List, [], ◌∷◌, ◌++◌, map, length, Option, Some, None, refl, sym, ap, subst, ◌∙◌}
+use Rattle.std.specs.Prelude.{◌^◌, codes, unwrap_or, IsUtf8}
 use Rattle.std.specs.List.{filter, filter_map, cons_option, AllByRecursion}
 use Rattle.std.specs.Str.{bytes_eq}
 use Rattle.std.proofs.lemmas.List.Elements.{filter-append, filter_map-append}
@@ -13,7 +13,7 @@ use Rattle.rt_json.specs.Fits.{FitsWithin, FitsFlat, FitsOver}
 use Rattle.rt_json.specs.Grammar.{IsWithin}
 use Rattle.rt_json.specs.Lookup.{member_of}
 use Rattle.rt_json.specs.Text.{IsNumber}
-use Rattle.rt_json.specs.Trees.{field, text_of, list_of}
+use Rattle.rt_json.specs.Trees.{field, text_of}
 use Rattle.rt_json.specs.Written.{written}
 use Rattle.rt_phx.specs.declared.message.Message.{Message}
 use Rattle.rt_phx.specs.declared.message.Version.{Version}
@@ -23,7 +23,6 @@ use Rattle.rt_phx.specs.Frame.{ref_of, no_members, message, message_of_five, mes
 use Rattle.rt_catalog.specs.declared.catalog.Catalog.{Catalog}
 use Rattle.rt_entry.specs.declared.input.Input.{Input}
 use Rattle.rt_entry.specs.declared.input.Settings.{Settings}
-use Rattle.rt_entry.specs.declared.input.Step.{Step}
 use Rattle.rt_entry.specs.declared.story.Opening.{Opening}
 use Rattle.rt_entry.specs.declared.story.Channel.{Channel}
 use Rattle.rt_entry.specs.declared.answer.Item.{Item}
@@ -31,7 +30,7 @@ use Rattle.rt_entry.specs.declared.answer.Item.TheVariants as item
 use Rattle.rt_entry.specs.Story.{members_at}
 use Rattle.rt_entry.specs.Doings.{story}
 use Rattle.rt_entry.specs.Machine.{start, run}
-use Rattle.rt_entry.specs.Presence.{Held, after_message, client_view, shown_meta, present_on, told_since, last_items, message_in, messages_on, IsReader, IsReadable, said_since, IsUpTo, GivenClientsAgree}
+use Rattle.rt_entry.specs.Presence.{Held, after_message, client_view, shown_meta, present_on, told_since, last_items, message_in, messages_on, IsReader, IsReadable, said_since, GivenClientsAgree}
 use Rattle.rt_laws.proofs.Among.{from_contains}
 use Rattle.rt_laws.proofs.Plain.{filter_map_swap}
 use Rattle.rt_laws.proofs.Moves.{Moves, permuted}

@@ -1,11 +1,11 @@
 -- What a slot is told since the join of its member, and how it is spelled.
-use Rattle.std.proofs.Common.{◌≡◌, ℕ, ◌+◌, ◌≤◌, ◌<◌, Bool, true, false, not, ◌&&◌, cond, List, [], ◌∷◌, ◌++◌, map, length, Option, Some, None, refl, sym, ap, subst, ◌∙◌, append_assoc, append-nil, arith, inl, inr}
-use Rattle.std.specs.Prelude.{◌==◌, ◌^◌, nat_le, if◌then◌else◌, count_by, option_map}
+use Rattle.std.proofs.Common.{◌≡◌, ℕ, ◌+◌, ◌≤◌, Bool, true, false, not, ◌&&◌, cond, List, [], ◌∷◌, ◌++◌, map, length, Option, Some, None, refl, sym, ap, subst, ◌∙◌, append_assoc, append-nil, arith, inl, inr}
+use Rattle.std.specs.Prelude.{◌==◌, nat_le, if◌then◌else◌, option_map}
 use Rattle.std.specs.List.{filter, filter_map, cons_option, fold}
 use Rattle.std.specs.Str.{bytes_eq}
-use Rattle.std.proofs.lemmas.Bool.Decides.{eqb_tells, leb_tells}
+use Rattle.std.proofs.lemmas.Bool.Decides.{leb_tells}
 use Rattle.std.proofs.lemmas.List.{map-append}
-use Rattle.std.proofs.lemmas.List.Elements.{filter-append, filter_map-append}
+use Rattle.std.proofs.lemmas.List.Elements.{filter-append}
 use Rattle.rt_phx.specs.declared.message.Message.{Message}
 use Rattle.rt_phx.specs.declared.message.Version.{Version}
 use Rattle.rt_phx.specs.declared.message.Version.TheVariants.{V1}
@@ -31,9 +31,9 @@ use Rattle.rt_laws.specs.After.{done_by}
 use Rattle.rt_laws.specs.Departures.{heard}
 use Rattle.rt_laws.proofs.Among.{Among}
 use Rattle.rt_laws.proofs.Plain.{AllOf}
-use Rattle.rt_laws.proofs.Marks.{told_append, told_none, answers_more, answers_none}
+use Rattle.rt_laws.proofs.Marks.{told_append, answers_more}
 use Rattle.rt_laws.proofs.Opens.{Spares}
-use Rattle.rt_laws.proofs.Agree.{Either, either, open_slots, open_channel, none_first, joins_numbered, member_number, none_told}
+use Rattle.rt_laws.proofs.Agree.{Either, either, open_slots, open_channel, none_first, joins_numbered, member_number}
 
 -- the version of the last opening
 abbrev pub version_after : Version → List Answer → Version

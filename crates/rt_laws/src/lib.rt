@@ -15,4 +15,4 @@ pub use presence::{
 };
 pub use serving::{serves_all, uncut_is_due};
 pub use steps::{cuts_are_own, others_are_untouched, push_keeps_the_rest};
-pub use stories::{members_are_apart, story_grows, tracks_are_apart};
+pub use stories::{members_are_apart, slots_are_open, story_grows, tracks_are_apart};

@@ -1,7 +1,7 @@
 ghost use Rattle.rt_catalog.specs.declared.catalog.Catalog.{Catalog as CatalogData};
 ghost use Rattle.rt_entry.specs.declared.input.Settings.{Settings as SettingsData};
 ghost use Rattle.rt_laws.specs.After.{StoryGrows, TablesGrow};
-ghost use Rattle.rt_laws.specs.Members.{NumbersAreApart, TopicsAreApart};
+ghost use Rattle.rt_laws.specs.Members.{NumbersAreApart, SlotsAreOpen, TopicsAreApart};
 ghost use Rattle.rt_laws.specs.Tracks.{ChannelsTrackOnce, ReferencesAreApart, TracksAreMembers};
 
 /// What an input finds comes from what the input before it found and did: openings, members with their claims, tracks and ids; and the tables that it
@@ -22,4 +22,9 @@ pub fn tracks_are_apart()
     ensures channels { (c : CatalogData) (s : SettingsData) → ChannelsTrackOnce c s }
     ensures references { (c : CatalogData) (s : SettingsData) → ReferencesAreApart c s }
     ensures members { (c : CatalogData) (s : SettingsData) → TracksAreMembers c s }
+{}
+
+/// The slot of each member is open.
+pub fn slots_are_open()
+    ensures { (c : CatalogData) (s : SettingsData) → SlotsAreOpen c s }
 {}
