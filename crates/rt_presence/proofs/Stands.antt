@@ -120,5 +120,5 @@ module _ (u : Standing) where
 pub calls_leave : CallsLeave
 calls_leave calls u = (
   (λ h. standing u calls (from_contains (after_calls calls) u h)),
-  (λ s. to_contains (after_calls calls) u (subst (λ (cs : List Call). Among (after_calls cs) u) (sym s.parts) (stays u s.later s.before s.last)))
+  (λ s. to_contains (after_calls calls) u (subst (λ (cs : List Call). Among (after_calls cs) u) (sym s.parts) (stays u s.later s.before s.last))),
 )

@@ -274,12 +274,7 @@ impl Presence {
     }
 
     // The metas of the topic's tracks behind one of it.
-    fn put_above(
-        &self,
-        topic: &Text,
-        track: &Track,
-        out: &mut Vec<Held>,
-    ) -> Result<(), AllocError>
+    fn put_above(&self, topic: &Text, track: &Track, out: &mut Vec<Held>) -> Result<(), AllocError>
         requires { track.now.topic ≡ topic.now }
         ensures { OnOk result (out.new.items ≡ out.old.items ++ map shown (on_topic topic.now (above self.now track.now))) }
     {

@@ -55,7 +55,14 @@ fn tracks_are_shown_by_key(rt: HostRuntime) -> Result<(), Fail> {
             b"{\"b\":{\"metas\":[{\"phx_ref\":\"11\",\"n\":1,\"n\":2}]},\"k\":{\"metas\":[{\"phx_ref\":\"9\",\"a\":1},{\"phx_ref\":\"10\"}]}}",
         ),
     ] {
-        let _told = track(&mut presence, rt.alloc(), ("t", channel), key, reference, tree)?;
+        let _told = track(
+            &mut presence,
+            rt.alloc(),
+            ("t", channel),
+            key,
+            reference,
+            tree,
+        )?;
         assert_eq!(rt; state(&presence, rt.alloc(), "t")?.get(), after);
     }
     assert_eq!(rt; state(&presence, rt.alloc(), "s")?.get(), b"{}".as_slice());
@@ -69,7 +76,10 @@ fn changes_are_told(rt: HostRuntime) -> Result<(), Fail> {
     let mut presence = Presence::new(alloc);
     assert!(rt; presence.untrack(&topic, 1)?.is_none());
     let first = track(&mut presence, alloc, ("t", 1), "k", 3, b"{\"a\":1}")?;
-    assert_eq!(rt; first.get(), b"{\"joins\":{\"k\":{\"metas\":[{\"phx_ref\":\"3\",\"a\":1}]}},\"leaves\":{}}".as_slice());
+    assert_eq!(rt;
+        first.get(),
+        b"{\"joins\":{\"k\":{\"metas\":[{\"phx_ref\":\"3\",\"a\":1}]}},\"leaves\":{}}".as_slice()
+    );
     let second = track(&mut presence, alloc, ("t", 1), "k", 5, b"null")?;
     assert_eq!(rt;
         second.get(),
@@ -78,6 +88,9 @@ fn changes_are_told(rt: HostRuntime) -> Result<(), Fail> {
     let copy = presence.copy()?;
     assert!(rt; presence.drop_channel(&topic, 1)?.is_some());
     assert_eq!(rt; state(&presence, alloc, "t")?.get(), b"{}".as_slice());
-    assert_eq!(rt; state(&copy, alloc, "t")?.get(), b"{\"k\":{\"metas\":[{\"phx_ref\":\"5\"}]}}".as_slice());
+    assert_eq!(rt;
+        state(&copy, alloc, "t")?.get(),
+        b"{\"k\":{\"metas\":[{\"phx_ref\":\"5\"}]}}".as_slice()
+    );
     Ok(())
 }

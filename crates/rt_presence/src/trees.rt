@@ -31,11 +31,7 @@ fn copy_member(alloc: Global, member: &Member) -> Result<Member, AllocError>
 }
 
 // Puts the members of any name but `phx_ref` behind the others.
-fn put_members(
-    alloc: Global,
-    members: &[Member],
-    out: &mut Vec<Member>,
-) -> Result<(), AllocError>
+fn put_members(alloc: Global, members: &[Member], out: &mut Vec<Member>) -> Result<(), AllocError>
     ensures { OnOk result (out.new.items ≡ out.old.items ++ filter is_kept members.now) }
 {
     for member in members {
