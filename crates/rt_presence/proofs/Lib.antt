@@ -1,0 +1,12 @@
+pub mod Orders
+pub mod Places
+pub mod Walks
+pub mod Among
+pub mod Plain
+pub mod Moves
+pub mod Keys
+pub mod Groups
+pub mod Stands
+pub mod ReadAgain
+pub mod Agree
+pub mod Taken

@@ -1,0 +1,137 @@
+-- What a client reads of trees of metas is what was written, up to order.
+use Rattle.std.proofs.Common.{◌≡◌, ℕ, ◌<◌, Bool, true, false, ◌||◌, not, cond, List, [], ◌∷◌, ◌++◌, map, Option, Some, None, refl, sym, ap, ◌∙◌, inl, inr}
+use Rattle.std.specs.Prelude.{◌==◌, ◌^◌, codes, unwrap_or}
+use Rattle.std.specs.Fmt.{decimal}
+use Rattle.std.specs.List.{filter, flat_map, list_any}
+use Rattle.std.specs.Str.{bytes_eq}
+use Rattle.std.specs.Ordering.{nat_cmp}
+use Rattle.std.specs.Cmp.Lexicographic.{slice_cmp}
+use Rattle.std.proofs.lemmas.Bool.Decides.{eqb_tells}
+use Rattle.std.proofs.lemmas.Fmt.{decimal_injective}
+use Rattle.std.proofs.lemmas.Slice.Eq.{bytes_eq-Decides}
+use Rattle.rt_value.specs.Choice.{◌>>=◌}
+use Rattle.rt_value.specs.Ordered.{in_order}
+use Rattle.rt_json.specs.declared.tree.Json.{Json, Text, Row_of-Json, end_of-Json, more_of-Json, items-the_row-Json, items_hidden-the_row-Json-0, Row_of-Member, end_of-Member, more_of-Member, items-the_row-Member, items_hidden-the_row-Member-1}
+use Rattle.rt_json.specs.declared.tree.Json.TheBlock.{hidden-the_row-Json-0, hidden-the_row-Member-1}
+use Rattle.rt_json.specs.declared.tree.Json.TheVariants as j
+use Rattle.rt_json.specs.declared.tree.named.Member.{Member}
+use Rattle.rt_json.specs.Grammar.{member}
+use Rattle.rt_json.specs.Lookup.{or_else, last_named, members_of, member_of, row_members}
+use Rattle.rt_json.specs.Trees.{field, list_of, text_of, row_items}
+use Rattle.rt_presence.specs.declared.differences.Diff.{Diff}
+use Rattle.rt_presence.specs.Trees.{Held, is_kept, meta_object, under_key, metas_of, metas_tree, joins_of, leaves_of, difference_tree}
+use Rattle.rt_presence.specs.Client.{metas_under, metas_in, reference_of, part_of, is_among, after_difference}
+use Rattle.rt_presence.proofs.Plain.{AllOf, filter_alike, all_every}
+use Rattle.rt_presence.proofs.Moves.{Moves, then_to, moves_same, moves_filter, moves_left, moves_right, moves_any}
+use Rattle.rt_presence.proofs.Keys.{IsIn, ordered_rises, ordered_has, of_key, group, grouped}
+use Rattle.rt_presence.proofs.Groups.{all_unmap, keys}
+
+-- the members of an object, and the items of a list
+row_is : {n : _} → (row : Row_of-Member n) → row_members row ≡ items-the_row-Member n row
+row_is end_of-Member = refl
+row_is (more_of-Member name value rest) = ap (λ (xs : List Member). member name value ∷ xs) (row_is rest)
+
+pub object_members : (ms : List Member) → members_of (j.Object ms) ≡ ms
+object_members ms = row_is (hidden-the_row-Member-1 ms) ∙ items_hidden-the_row-Member-1 ms
+
+object_at : (ms : List Member) (name : List ℕ) → member_of (j.Object ms) name ≡ last_named name ms
+object_at ms name = ap (last_named name) (object_members ms)
+
+rows_are : {n : _} → (row : Row_of-Json n) → row_items row ≡ items-the_row-Json n row
+rows_are end_of-Json = refl
+rows_are (more_of-Json tree rest) = ap (λ (xs : List Json). tree ∷ xs) (rows_are rest)
+
+list_items : (xs : List Json) → list_of (j.List xs) ≡ Some xs
+list_items xs = ap (λ (ys : List Json). Some ys) (rows_are (hidden-the_row-Json-0 xs) ∙ items_hidden-the_row-Json-0 xs)
+
+flat_of_map : {A B C : Type 0} (f : B → List C) (g : A → B) (xs : List A) → flat_map f (map g xs) ≡ flat_map (λ x. f (g x)) xs
+flat_of_map f g [] = refl
+flat_of_map f g (x ∷ xs) = ap (λ ys. f (g x) ++ ys) (flat_of_map f g xs)
+
+flat_same : {A B : Type 0} (f g : A → List B) (xs : List A) → ((x : A) → f x ≡ g x) → flat_map f xs ≡ flat_map g xs
+flat_same f g [] e = refl
+flat_same f g (x ∷ xs) e = ap (λ ys. ys ++ flat_map f xs) (e x) ∙ ap (λ ys. g x ++ ys) (flat_same f g xs e)
+
+-- the metas under a key
+abbrev key_of : Held → List ℕ
+key_of h = h.0
+
+abbrev paired : List ℕ → Json → Held
+paired k meta = (k, meta)
+
+own_pair : (k : List ℕ) (h : Held) (hs : List Held) (b : Bool) → of_key key_of k h ≡ b → map (paired k) (map (λ (x : Held). x.1) (group key_of hs k)) ≡ group key_of hs k
+    → map (paired k) (map (λ (x : Held). x.1) (cond b (h ∷ group key_of hs k) (group key_of hs k))) ≡ cond b (h ∷ group key_of hs k) (group key_of hs k)
+own_pair k h hs true e more =
+    ap (λ (x : List ℕ). paired x h.1 ∷ map (paired k) (map (λ (y : Held). y.1) (group key_of hs k))) (sym ((bytes_eq-Decides h.0 k).0 e)) ∙ ap (λ ys. h ∷ ys) more
+own_pair k h hs false e more = more
+
+pairs_again : (k : List ℕ) (hs : List Held) → map (paired k) (map (λ (x : Held). x.1) (group key_of hs k)) ≡ group key_of hs k
+pairs_again k [] = refl
+pairs_again k (h ∷ hs) = own_pair k h hs (of_key key_of k h) refl (pairs_again k hs)
+
+under_again : (hs : List Held) (k : List ℕ) → metas_under (metas_of hs k) ≡ group key_of hs k
+under_again hs k =
+    let ms = under_key hs k in
+    let put : List Json → List Held = λ xs. map (paired k) xs in
+    ap (λ (o : Option Json). put (unwrap_or (o >>= list_of) [])) (object_at (field (codes "metas") (j.List ms) ∷ []) (codes "metas"))
+    ∙ ap (λ (o : Option (List Json)). put (unwrap_or o [])) (list_items ms)
+    ∙ pairs_again k hs
+
+pub read_again : (hs : List Held) → Moves (metas_in (metas_tree hs)) hs
+read_again hs =
+    let all = flat_map (group key_of hs) (keys hs) in
+    let is : metas_in (metas_tree hs) ≡ all =
+    ap (flat_map metas_under) (object_members (map (metas_of hs) (keys hs)))
+    ∙ flat_of_map metas_under (metas_of hs) (keys hs)
+    ∙ flat_same (λ k. metas_under (metas_of hs k)) (group key_of hs) (keys hs) (under_again hs) in
+    then_to (metas_in (metas_tree hs)) all hs (moves_same (metas_in (metas_tree hs)) all is)
+    (grouped key_of (keys hs) hs (ordered_rises (map key_of hs)) (all_unmap (IsIn (keys hs)) key_of hs (ordered_has (map key_of hs))))
+
+-- references
+
+left_out : (name : List ℕ) (m : Member) (ms : List Member) (b : Bool) → bytes_eq m.name name ≡ b → last_named name ms ≡ None → last_named name (cond (not b) (m ∷ ms) ms) ≡ None
+left_out name m ms true e h = h
+left_out name m ms false e h = ap (λ (o : Option Json). or_else o (cond (bytes_eq m.name name) (Some m.value) None)) h ∙ ap (λ (b : Bool). cond b (Some m.value) None) e
+
+none_left : (name : List ℕ) (ms : List Member) → last_named name (filter (λ (m : Member). not (bytes_eq m.name name)) ms) ≡ None
+none_left name [] = refl
+none_left name (m ∷ ms) = left_out name m (filter (λ (x : Member). not (bytes_eq x.name name)) ms) (bytes_eq m.name name) refl (none_left name ms)
+
+pub reference_is : (key : List ℕ) (reference : ℕ) (tree : Json) → reference_of (key, meta_object reference tree) ≡ decimal reference
+reference_is key reference tree =
+    ap (λ (o : Option Json). unwrap_or (o >>= text_of) [])
+    (object_at (field (codes "phx_ref") (Text (decimal reference)) ∷ filter is_kept (members_of tree)) (codes "phx_ref")
+    ∙ ap (λ (o : Option Json). or_else o (Some (Text (decimal reference)))) (none_left (codes "phx_ref") (members_of tree)))
+
+differ : (m n : ℕ) (x : Bool) → m < 2 ^ 64 → n < 2 ^ 64 → bytes_eq (decimal m) (decimal n) ≡ x → (m ≡ n → ⊥) → bytes_eq (decimal m) (decimal n) ≡ false
+differ m n true a b e ne = absurd (ne (decimal_injective m n a b ((bytes_eq-Decides (decimal m) (decimal n)).0 e)))
+differ m n false a b e ne = e
+
+pub same_text : (m n : ℕ) → m < 2 ^ 64 → n < 2 ^ 64 → bytes_eq (decimal m) (decimal n) ≡ (m == n)
+same_text m n a b = elim (eqb_tells m n) [
+  | inl t ↦ (bytes_eq-Decides (decimal m) (decimal n)).1 (ap decimal t.1) ∙ sym t.0
+  | inr t ↦ differ m n (bytes_eq (decimal m) (decimal n)) a b refl t.1 ∙ sym t.0
+]
+
+-- one difference
+pub difference_read : (held seen : List Held) (ds : List Diff) → Moves held seen
+    → Moves (after_difference held (difference_tree ds)) (filter (λ h. not (is_among (leaves_of ds) h)) (seen ++ joins_of ds))
+difference_read held seen ds m =
+    let ms : List Member = field (codes "joins") (metas_tree (joins_of ds)) ∷ field (codes "leaves") (metas_tree (leaves_of ds)) ∷ [] in
+    let tree = j.Object ms in
+    let js = metas_in (metas_tree (joins_of ds)) in
+    let ls = metas_in (metas_tree (leaves_of ds)) in
+    let stays : List Held → Held → Bool = λ gone h. not (is_among gone h) in
+    let joined : part_of (codes "joins") tree ≡ js = ap (λ (o : Option Json). metas_in (unwrap_or o (j.Object []))) (object_at ms (codes "joins")) in
+    let left : part_of (codes "leaves") tree ≡ ls = ap (λ (o : Option Json). metas_in (unwrap_or o (j.Object []))) (object_at ms (codes "leaves")) in
+    let is : after_difference held tree ≡ filter (stays ls) (held ++ js) =
+    ap (λ (x : List Held). filter (stays x) (held ++ part_of (codes "joins") tree)) left ∙ ap (λ (x : List Held). filter (stays ls) (held ++ x)) joined in
+    let alike : (h : Held) → stays ls h ≡ stays (leaves_of ds) h = λ h. ap not (moves_any (λ g. bytes_eq (reference_of g) (reference_of h)) ls (leaves_of ds) (read_again (leaves_of ds))) in
+    let all = seen ++ joins_of ds in
+    let both : Moves (held ++ js) all =
+    then_to (held ++ js) (seen ++ js) all (moves_left js held seen m) (moves_right seen js (joins_of ds) (read_again (joins_of ds))) in
+    then_to (after_difference held tree) (filter (stays ls) (held ++ js)) (filter (stays (leaves_of ds)) all)
+    (moves_same (after_difference held tree) (filter (stays ls) (held ++ js)) is)
+    (then_to (filter (stays ls) (held ++ js)) (filter (stays ls) all) (filter (stays (leaves_of ds)) all)
+    (moves_filter (stays ls) (held ++ js) all both)
+    (moves_same (filter (stays ls) all) (filter (stays (leaves_of ds)) all) (filter_alike (stays ls) (stays (leaves_of ds)) all (all_every (λ h. stays ls h ≡ stays (leaves_of ds) h) all alike))))

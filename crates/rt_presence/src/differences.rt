@@ -1,0 +1,18 @@
+use rt_json::Json;
+use rt_value::Text;
+
+/// What a channel shows of itself: its track's number and the tracked tree.
+#[derive(Drop)]
+pub struct Meta {
+    pub reference: u32,
+    pub channel: u32,
+    pub tree: Json,
+}
+
+/// What changes under a key: the meta that joins and the one that leaves.
+#[derive(Drop)]
+pub struct Diff {
+    pub key: Text,
+    pub joined: Option<Meta>,
+    pub left: Option<Meta>,
+}

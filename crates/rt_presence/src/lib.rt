@@ -1,0 +1,15 @@
+//! Presence: who is present on a topic (the Realtime protocol, "Presence").
+#![tactic(auto)]
+
+mod differences;
+pub mod laws;
+mod present;
+#[cfg(test)]
+mod tests;
+mod tracks;
+mod trees;
+
+pub use differences::{Diff, Meta};
+pub use present::Presence;
+pub use tracks::Track;
+pub use trees::difference_tree;

@@ -1,0 +1,332 @@
+ghost use Rattle.std.specs.Prelude.{◌≡◌, ◌++◌, [], option_to_list, None, Some, map, option_map, IfOk, OnOk, OnErr, IfSome};
+ghost use Rattle.rt_presence.specs.Tracks.{track_cmp, track_of, without_channel, with_track, put, track_at, meta_of, joining, leaving};
+ghost use Rattle.std.specs.Arc.{arc_value};
+ghost use Rattle.std.specs.BTreeMap.{insert_entry};
+ghost use Rattle.rt_ptree.specs.Entries.{Updates, value_at};
+ghost use Rattle.rt_presence.specs.Index.{place_of, above, least_on};
+ghost use Rattle.rt_presence.specs.Walk.{rest_of};
+ghost use Rattle.rt_presence.specs.Trees.{shown, on_topic, state_tree};
+
+use crate::differences::{Diff, Meta};
+use crate::tracks::{Place, Track};
+use crate::trees::{Held, meta_object, metas_tree};
+use rt_json::Json;
+use rt_ptree::Tree;
+use rt_value::Text;
+use std::alloc::{AllocError, Global};
+use std::marker::Model;
+use std::sync::Arc;
+
+/// Who is present on each topic. A channel has at most one track on a topic.
+///
+/// Contracts see the list of the tracks that stand, each with its tree, in their order.
+#[derive(Drop)]
+pub struct Presence {
+    tracks: Tree<Track, Json>,
+    places: Tree<Place, Track>,
+    alloc: Global,
+}
+
+impl Model for Presence {
+    ghost use Rattle.std.specs.Prelude.{List};
+    ghost use Rattle.rt_presence.specs.Tracks.{Standing};
+    ghost use Rattle.rt_presence.specs.Index.{IsIndexed};
+    ghost use Rattle.rt_json.specs.contracts.tree.Json as tree;
+    ghost use Rattle.std.specs.Coded.{codes};
+
+    ghost Value = { List Standing };
+
+    ghost coded = { Prim.hlevel (codes, tree.the_row.coded) };
+
+    ghost view = { λ p. p.tracks };
+
+    ghost invariant = { λ p. IsIndexed p.tracks p.places };
+}
+
+// Puts the entry in. After want of memory the map is as it was.
+fn insert<K: Ord + Drop, V: Drop>(
+    tree: &mut Tree<K, V>,
+    key: Arc<K>,
+    value: Arc<V>,
+) -> Result<(), AllocError>
+    ensures ok { OnOk result (tree.new ≡ insert_entry K.cmp tree.old (arc_value key) (arc_value value)) }
+    ensures updates { OnOk result (Updates K.cmp tree.old tree.new (arc_value key) (Some (arc_value value))) }
+{
+    match tree.insert(key, value) {
+        Ok(()) => Ok(()),
+        Err(_) => Err(AllocError),
+    }
+}
+
+impl Presence {
+    /// Nobody. Takes no memory.
+    pub fn new(alloc: Global) -> Self
+        ensures { result ≡ [] }
+    {
+        Presence {
+            tracks: Tree::new(alloc),
+            places: Tree::new(alloc),
+            alloc,
+        }
+    }
+
+    /// An equal value, of which a change leaves this one as it is. Fails for want of memory alone.
+    pub fn copy(&self) -> Result<Self, AllocError>
+        ensures { IfOk result (λ p. p ≡ self.now) }
+    {
+        Ok(Presence {
+            tracks: self.tracks.snapshot()?,
+            places: self.places.snapshot()?,
+            alloc: self.alloc,
+        })
+    }
+
+    // The channel's track on the topic.
+    fn find(&self, place: &Place) -> Option<(&Track, &Json)>
+        ensures { option_map (λ t. (t.0.now, t.1.now)) result ≡ track_of self.now place.now.topic place.now.channel }
+    {
+        match self.places.get(place) {
+            None => None,
+            Some(track) => match self.tracks.get(track) {
+                None => None,
+                Some(tree) => Some((track, tree)),
+            },
+        }
+    }
+
+    // Without the channel's track on the topic.
+    fn without(&self, place: &Place) -> Result<Self, AllocError>
+        ensures { IfOk result (λ p. p ≡ without_channel self.now place.now.topic place.now.channel) }
+    {
+        match self.places.get(place) {
+            None => self.copy(),
+            Some(track) => {
+                let mut tracks = self.tracks.snapshot()?;
+                let mut places = self.places.snapshot()?;
+                // A tree's count tells a proof that its keys rise.
+                let _count = tracks.len();
+                tracks.remove(track)?;
+                places.remove(place)?;
+                Ok(Presence {
+                    tracks,
+                    places,
+                    alloc: self.alloc,
+                })
+            }
+        }
+    }
+
+    // With a track of a channel that has none on the topic.
+    fn with(&self, place: Place, track: Track, tree: Json) -> Result<Self, AllocError>
+        requires place { place ≡ place_of track }
+        requires absent { track_of self.now place.topic place.channel ≡ None }
+        ensures { IfOk result (λ p. p ≡ put (track, tree) self.now) }
+    {
+        let mut tracks = self.tracks.snapshot()?;
+        let mut places = self.places.snapshot()?;
+        let track = Arc::new(self.alloc, track)?;
+        let shared = Arc::try_clone(&track)?;
+        let tree = Arc::new(self.alloc, tree)?;
+        insert(&mut tracks, track, tree)?;
+        let place = Arc::new(self.alloc, place)?;
+        insert(&mut places, place, shared)?;
+        Ok(Presence {
+            tracks,
+            places,
+            alloc: self.alloc,
+        })
+    }
+
+    fn place(&self, topic: &Text, channel: u32) -> Result<Place, AllocError>
+        ensures topic { IfOk result (λ p. p.topic ≡ topic.now) }
+        ensures channel { IfOk result (λ p. p.channel ≡ channel) }
+    {
+        Ok(Place {
+            topic: topic.copy(self.alloc)?,
+            channel,
+        })
+    }
+
+    fn meta(&self, track: &Track, tree: &Json) -> Result<Meta, AllocError>
+        ensures { IfOk result (λ m. m ≡ meta_of (track.now, tree.now)) }
+    {
+        Ok(Meta {
+            reference: track.reference,
+            channel: track.channel,
+            tree: tree.copy(self.alloc)?,
+        })
+    }
+
+    fn meta_at(&self, place: &Place) -> Result<Option<Meta>, AllocError>
+        ensures { IfOk result (λ m. m ≡ option_map meta_of (track_of self.now place.now.topic place.now.channel)) }
+    {
+        match self.find(place) {
+            None => Ok(None),
+            Some((track, tree)) => Ok(Some(self.meta(track, tree)?)),
+        }
+    }
+
+    fn joining(&self, place: &Place, track: &Track, tree: &Json) -> Result<Diff, AllocError>
+        ensures { IfOk result (λ d.
+            d ≡ joining (track.now, tree.now) (track_of self.now place.now.topic place.now.channel)) }
+    {
+        let left = self.meta_at(place)?;
+        let joined = self.meta(track, tree)?;
+        Ok(Diff {
+            key: track.key.copy(self.alloc)?,
+            joined: Some(joined),
+            left,
+        })
+    }
+
+    fn leaving(&self, track: &Track, tree: &Json) -> Result<Diff, AllocError>
+        ensures { IfOk result (λ d. d ≡ leaving (track.now, tree.now)) }
+    {
+        let left = self.meta(track, tree)?;
+        Ok(Diff {
+            key: track.key.copy(self.alloc)?,
+            joined: None,
+            left: Some(left),
+        })
+    }
+
+    /// The channel tracks the tree on the topic, under the key and with this number, in place of what it tracked there. Answers the
+    /// difference: the meta that joins, and the former one (which a channel tracks under one key).
+    ///
+    /// Errors: memory ran out. Nothing has changed then.
+    pub fn track(
+        &mut self,
+        topic: &Text,
+        channel: u32,
+        key: &Text,
+        reference: u32,
+        tree: Json,
+    ) -> Result<Diff, AllocError>
+        ensures ok { OnOk result (self.new ≡ with_track self.old (track_at topic.now key.now reference channel, tree)) }
+        ensures difference { IfOk result (λ d.
+            d ≡ joining (track_at topic.now key.now reference channel, tree) (track_of self.old topic.now channel)) }
+        ensures err { OnErr result (self.new ≡ self.old) }
+    {
+        let place = self.place(topic, channel)?;
+        let track = Track {
+            topic: topic.copy(self.alloc)?,
+            key: key.copy(self.alloc)?,
+            reference,
+            channel,
+        };
+        let difference = self.joining(&place, &track, &tree)?;
+        *self = self.without(&place)?.with(place, track, tree)?;
+        Ok(difference)
+    }
+
+    /// The channel tracks nothing on the topic from here on. Answers what leaves; None exactly where the channel tracked nothing there.
+    ///
+    /// Errors: memory ran out. Nothing has changed then.
+    pub fn untrack(&mut self, topic: &Text, channel: u32) -> Result<Option<Diff>, AllocError>
+        ensures ok { OnOk result (self.new ≡ without_channel self.old topic.now channel) }
+        ensures difference { IfOk result (λ d. d ≡ option_map leaving (track_of self.old topic.now channel)) }
+        ensures err { OnErr result (self.new ≡ self.old) }
+    {
+        let place = self.place(topic, channel)?;
+        let difference = match self.find(&place) {
+            None => None,
+            Some((track, tree)) => Some(self.leaving(track, tree)?),
+        };
+        *self = self.without(&place)?;
+        Ok(difference)
+    }
+
+    /// The channel departs from the topic. Answers what leaves; None exactly where the channel tracked nothing there.
+    ///
+    /// Errors: memory ran out. Nothing has changed then.
+    pub fn drop_channel(&mut self, topic: &Text, channel: u32) -> Result<Option<Diff>, AllocError>
+        ensures ok { OnOk result (self.new ≡ without_channel self.old topic.now channel) }
+        ensures difference { IfOk result (λ d. d ≡ option_map leaving (track_of self.old topic.now channel)) }
+        ensures err { OnErr result (self.new ≡ self.old) }
+    {
+        self.untrack(topic, channel)
+    }
+
+    // The next track on the topic behind one of it.
+    fn next_on(&self, topic: &Text, track: &Track) -> Option<(&Track, &Json)>
+        requires { track.now.topic ≡ topic.now }
+        ensures rest { on_topic topic.now (above self.now track.now) ≡ rest_of topic.now self.now result }
+        ensures topic { IfSome result (λ t. t.0.now.topic ≡ topic.now) }
+    {
+        let _count = self.tracks.len();
+        match self.tracks.after(track) {
+            None => None,
+            Some((next, tree)) => {
+                if next.topic.get() == topic.get() {
+                    Some((next, tree))
+                } else {
+                    None
+                }
+            }
+        }
+    }
+
+    fn held(&self, track: &Track, tree: &Json) -> Result<Held, AllocError>
+        ensures { IfOk result (λ h. h ≡ shown (track.now, tree.now)) }
+    {
+        let meta = meta_object(self.alloc, track.reference, tree)?;
+        Ok((track.key.copy(self.alloc)?, meta))
+    }
+
+    // The metas of the topic's tracks behind one of it.
+    fn put_above(&self, topic: &Text, track: &Track, out: &mut Vec<Held>) -> Result<(), AllocError>
+        requires { track.now.topic ≡ topic.now }
+        ensures { OnOk result (out.new.items ≡ out.old.items ++ map shown (on_topic topic.now (above self.now track.now))) }
+    {
+        let mut next = self.next_on(topic, track);
+        while let Some((here, tree)) = next {
+            out.push(self.held(here, tree)?)?;
+            next = self.next_on(topic, here);
+        }
+        Ok(())
+    }
+
+    fn least_on(&self, topic: &Text) -> Result<Track, AllocError>
+        ensures { IfOk result (λ t. t ≡ least_on topic.now) }
+    {
+        Ok(Track {
+            topic: topic.copy(self.alloc)?,
+            key: Text::new(String::new(self.alloc)),
+            reference: 0,
+            channel: 0,
+        })
+    }
+
+    // The metas of the topic's tracks.
+    fn shown_on(&self, topic: &Text) -> Result<Vec<Held>, AllocError>
+        ensures { IfOk result (λ held. held.items ≡ map shown (on_topic topic.now self.now)) }
+    {
+        let _count = self.tracks.len();
+        let least = self.least_on(topic)?;
+        let mut held = Vec::new(self.alloc);
+        self.put_at(&least, &mut held)?;
+        self.put_above(topic, &least, &mut held)?;
+        Ok(held)
+    }
+
+    fn put_at(&self, track: &Track, out: &mut Vec<Held>) -> Result<(), AllocError>
+        ensures { OnOk result (out.new.items
+            ≡ out.old.items ++ map shown (option_to_list (option_map (λ tree. (track.now, tree)) (value_at track_cmp self.now track.now)))) }
+    {
+        match self.tracks.get(track) {
+            None => Ok(()),
+            Some(tree) => {
+                out.push(self.held(track, tree)?)?;
+                Ok(())
+            }
+        }
+    }
+
+    /// The tree of a `presence_state` of the topic: the metas under each key, the keys in byte order and the metas of a key in order of
+    /// their numbers. Fails for want of memory alone.
+    pub fn state(&self, topic: &Text) -> Result<Json, AllocError>
+        ensures { IfOk result (λ tree. tree ≡ state_tree self.now topic.now) }
+    {
+        metas_tree(self.alloc, self.shown_on(topic)?)
+    }
+}

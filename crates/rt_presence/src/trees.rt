@@ -1,0 +1,166 @@
+//! The trees of presence messages.
+ghost use Rattle.std.specs.Prelude.{◌≡◌, ◌++◌, ◌∷◌, [], IfOk, OnOk, filter, reverse, map, option_map, option_to_list};
+ghost use Rattle.rt_json.specs.Lookup.{members_of};
+ghost use Rattle.rt_json.specs.Trees.{field};
+ghost use Rattle.rt_presence.specs.Trees.{is_kept, meta_object, metas_member, metas_tree, added, all_added, joins_of, leaves_of, difference_tree, under};
+
+use crate::differences::{Diff, Meta};
+use rt_json::{Json, Member};
+use rt_value::{List, Text};
+use std::alloc::{AllocError, Global};
+use std::collections::BTreeMap;
+
+/// A key, and the tree of a meta under it.
+pub type Held = (Text, Json);
+
+type Groups = BTreeMap<Text, List<Json>>;
+
+fn member(alloc: Global, name: &str, value: Json) -> Result<Member, AllocError>
+    ensures { IfOk result (λ m. m ≡ field name.now value) }
+{
+    let name = Text::new(String::from_str(alloc, name)?);
+    Ok(Member { name, value })
+}
+
+fn copy_member(alloc: Global, member: &Member) -> Result<Member, AllocError>
+    ensures { IfOk result (λ m. m ≡ member.now) }
+{
+    let name = member.name.copy(alloc)?;
+    let value = member.value.copy(alloc)?;
+    Ok(Member { name, value })
+}
+
+// Puts the members of any name but `phx_ref` behind the others.
+fn put_members(alloc: Global, members: &[Member], out: &mut Vec<Member>) -> Result<(), AllocError>
+    ensures { OnOk result (out.new.items ≡ out.old.items ++ filter is_kept members.now) }
+{
+    for member in members {
+        if member.name.get() != "phx_ref" {
+            out.push(copy_member(alloc, member)?)?;
+        }
+    }
+    Ok(())
+}
+
+fn put_tree(alloc: Global, tree: &Json, out: &mut Vec<Member>) -> Result<(), AllocError>
+    ensures { OnOk result (out.new.items ≡ out.old.items ++ filter is_kept (members_of tree.now)) }
+{
+    match tree {
+        Json::Object(members) => put_members(alloc, members.get(), out),
+        _ => Ok(()),
+    }
+}
+
+/// The tree of a meta.
+pub fn meta_object(alloc: Global, reference: u32, tree: &Json) -> Result<Json, AllocError>
+    ensures { IfOk result (λ t. t ≡ meta_object reference tree.now) }
+{
+    let digits = Json::Text(Text::new(format!(in alloc; "{reference}")?));
+    let mut members = Vec::new(alloc);
+    members.push(member(alloc, "phx_ref", digits)?)?;
+    put_tree(alloc, tree, &mut members)?;
+    Ok(Json::Object(List::new(members)))
+}
+
+fn add(alloc: Global, groups: &mut Groups, key: Text, meta: Json) -> Result<(), AllocError>
+    ensures { OnOk result (groups.new.entries ≡ added (key, meta) groups.old.entries) }
+{
+    let mut metas = match groups.remove(&key) {
+        Some(metas) => metas.into_inner(),
+        None => Vec::new(alloc),
+    };
+    metas.push(meta)?;
+    groups
+        .insert(key, List::new(metas))
+        .map_err(|_| AllocError)?;
+    Ok(())
+}
+
+// The metas of each key, the last first.
+fn grouped(alloc: Global, mut held: Vec<Held>) -> Result<Groups, AllocError>
+    ensures { IfOk result (λ groups. groups.entries ≡ all_added held.items []) }
+{
+    let mut groups = BTreeMap::new(alloc);
+    while let Some((key, meta)) = held.pop() {
+        add(alloc, &mut groups, key, meta)?;
+    }
+    Ok(groups)
+}
+
+// The member of a key, of its metas from the last on.
+fn metas_member(alloc: Global, key: Text, metas: List<Json>) -> Result<Member, AllocError>
+    ensures { IfOk result (λ m. m ≡ metas_member key (reverse metas)) }
+{
+    let mut metas = metas.into_inner();
+    metas.reverse();
+    let list = Json::List(List::new(metas));
+    let mut members = Vec::new(alloc);
+    members.push(member(alloc, "metas", list)?)?;
+    let value = Json::Object(List::new(members));
+    Ok(Member { name: key, value })
+}
+
+fn group_members(alloc: Global, mut groups: Groups) -> Result<Vec<Member>, AllocError>
+    ensures { IfOk result (λ members.
+        members.items ≡ map (λ g. metas_member g.0 (reverse g.1)) groups.entries) }
+{
+    let mut members = Vec::new(alloc);
+    while let Some((key, metas)) = groups.pop_first() {
+        members.push(metas_member(alloc, key, metas)?)?;
+    }
+    Ok(members)
+}
+
+/// The metas under each key, the keys in byte order.
+pub fn metas_tree(alloc: Global, held: Vec<Held>) -> Result<Json, AllocError>
+    ensures { IfOk result (λ tree. tree ≡ metas_tree held.items) }
+{
+    let groups = grouped(alloc, held)?;
+    let members = group_members(alloc, groups)?;
+    Ok(Json::Object(List::new(members)))
+}
+
+fn put_held(
+    alloc: Global,
+    key: &Text,
+    meta: &Option<Meta>,
+    out: &mut Vec<Held>,
+) -> Result<(), AllocError>
+    ensures { OnOk result (out.new.items ≡ out.old.items ++ option_to_list (option_map (under key.now) meta.now)) }
+{
+    if let Some(meta) = meta {
+        let tree = meta_object(alloc, meta.reference, &meta.tree)?;
+        out.push((key.copy(alloc)?, tree))?;
+    }
+    Ok(())
+}
+
+fn joins(alloc: Global, differences: &[Diff]) -> Result<Json, AllocError>
+    ensures { IfOk result (λ tree. tree ≡ metas_tree (joins_of differences.now)) }
+{
+    let mut held = Vec::new(alloc);
+    for difference in differences {
+        put_held(alloc, &difference.key, &difference.joined, &mut held)?;
+    }
+    metas_tree(alloc, held)
+}
+
+fn leaves(alloc: Global, differences: &[Diff]) -> Result<Json, AllocError>
+    ensures { IfOk result (λ tree. tree ≡ metas_tree (leaves_of differences.now)) }
+{
+    let mut held = Vec::new(alloc);
+    for difference in differences {
+        put_held(alloc, &difference.key, &difference.left, &mut held)?;
+    }
+    metas_tree(alloc, held)
+}
+
+/// The tree of a `presence_diff`: the metas that join and those that leave. Fails for want of memory alone.
+pub fn difference_tree(alloc: Global, differences: &[Diff]) -> Result<Json, AllocError>
+    ensures { IfOk result (λ tree. tree ≡ difference_tree differences.now) }
+{
+    let mut members = Vec::new(alloc);
+    members.push(member(alloc, "joins", joins(alloc, differences)?)?)?;
+    members.push(member(alloc, "leaves", leaves(alloc, differences)?)?)?;
+    Ok(Json::Object(List::new(members)))
+}
