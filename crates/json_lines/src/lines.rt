@@ -1,21 +1,75 @@
-ghost use Rattle.std.specs.Prelude.{◌≡◌, ◌+◌, ◌++◌, ◌<◌, ◌≤◌, drop, length, IfOk};
+ghost use Rattle.std.specs.Prelude.{◌≡◌, ◌≤◌, ℕ, List, [], ◌++◌, take, drop, length, Ok, true, false, IfOk, OnOk};
 ghost use Rattle.std.specs.Fmt.{decimal};
-ghost use Rattle.json_lines.specs.Lines.{Answers, IsAnswerBehind, past_line};
+ghost use Rattle.std.specs.Io.BufRead.{strip_last};
+ghost use Rattle.json_lines.specs.Lines.{IsAnswer, HasAnswered};
+ghost use Rattle.json_lines.specs.Parts.{Takes, IsWhole, IsPart};
 
 use memchr::memchr;
 use rt_json::{JsonFault, read, write_behind};
 use std::alloc::{AllocError, Global};
+use std::io::{self, BufRead, ErrorKind, Write};
 
-/// The place of the first line feed from `at` on.
-fn line_end(input: &[u8], at: usize) -> usize
-    requires { at ≤ length input.now }
-    ensures from { at ≤ result }
-    ensures within { result ≤ length input.now }
-    ensures rest { drop result input.now ≡ past_line (drop at input.now) }
+/// How many bytes there are up to the first line feed and with it, or in all, and whether the line is whole: with a
+/// line feed, or where there is none left to read.
+fn part_end(bytes: &[u8]) -> (usize, bool)
+    ensures within { result.0 ≤ length bytes.now }
+    ensures whole { result.1 ≡ true → (rest : List ℕ) → (length bytes.now ≡ 0 → rest ≡ [])
+        → IsWhole (bytes.now ++ rest) (take result.0 bytes.now) (drop result.0 bytes.now ++ rest) }
+    ensures part { result.1 ≡ false → (rest : List ℕ)
+        → IsPart (bytes.now ++ rest) (take result.0 bytes.now) (drop result.0 bytes.now ++ rest) }
 {
-    match memchr(b'\n', &input[at..]) {
-        Some(count) => at + count,
-        None => input.len(),
+    match memchr(b'\n', bytes) {
+        Some(at) => (at + 1, true),
+        None => (bytes.len(), bytes.is_empty()),
+    }
+}
+
+/// Puts what the reader shows of a line behind what is there of it. Says whether the line is whole.
+fn read_part<R: BufRead>(input: &mut R, line: &mut Vec<u8>) -> io::Result<bool>
+    ensures whole { result ≡ Ok true
+        → Takes IsWhole (R.remaining input.old) (R.remaining input.new) line.old.items line.new.items }
+    ensures part { result ≡ Ok false
+        → Takes IsPart (R.remaining input.old) (R.remaining input.new) line.old.items line.new.items }
+{
+    let bytes = match input.fill_buf() {
+        Ok(bytes) => bytes,
+        Err(e) => {
+            return if e.kind() == ErrorKind::Interrupted {
+                Ok(false)
+            } else {
+                Err(e)
+            };
+        }
+    };
+    let (end, is_whole) = part_end(bytes);
+    line.extend_from_slice(&bytes[..end])?;
+    input.consume(end);
+    Ok(is_whole)
+}
+
+/// The next line with its line feed in place of what was there, nothing at the end. It searches by `memchr`, where
+/// `read_until` goes byte by byte.
+fn read_line<R: BufRead>(input: &mut R, line: &mut Vec<u8>) -> io::Result<()>
+    ensures { OnOk result (Takes IsWhole (R.remaining input.old) (R.remaining input.new) [] line.new.items) }
+{
+    line.clear();
+    'parts: for _ in 0..u64::MAX {
+        if read_part(input, line)? {
+            return Ok(());
+        }
+    }
+    Err(ErrorKind::Other.into())
+}
+
+/// A line without the line feed at its end.
+fn text(line: &[u8]) -> &[u8]
+    ensures { result.now ≡ strip_last 10 line.now }
+{
+    let len = line.len();
+    if len > 0 && line[len - 1] == b'\n' {
+        &line[..len - 1]
+    } else {
+        line
     }
 }
 
@@ -29,38 +83,45 @@ fn told(alloc: Global, out: Vec<u8>, words: &str, at: usize) -> Result<Vec<u8>, 
     Ok(out)
 }
 
-/// The output with the spelling of the line's tree behind it, or the place of its fault.
-fn answer(alloc: Global, out: Vec<u8>, line: &[u8]) -> Result<Vec<u8>, AllocError>
-    ensures { IfOk result (λ all. IsAnswerBehind out.items line.now all.items) }
+/// The room of bytes, with nothing in it.
+fn emptied(bytes: Vec<u8>) -> Vec<u8>
+    ensures { result.items ≡ [] }
 {
-    match read(alloc, line) {
-        Ok(tree) => write_behind(out, &tree),
-        Err(JsonFault::Bad { at }) => told(alloc, out, "bad ", at),
-        Err(JsonFault::TooDeep { at }) => told(alloc, out, "too deep ", at),
+    let mut room = bytes;
+    room.clear();
+    room
+}
+
+/// The answer to a line, in the line's room.
+fn answer(alloc: Global, line: Vec<u8>) -> Result<Vec<u8>, AllocError>
+    ensures { IfOk result (λ all. IsAnswer (strip_last 10 line.items) all.items) }
+{
+    match read(alloc, text(&line)) {
+        Ok(tree) => write_behind(emptied(line), &tree),
+        Err(JsonFault::Bad { at }) => told(alloc, emptied(line), "bad ", at),
+        Err(JsonFault::TooDeep { at }) => told(alloc, emptied(line), "too deep ", at),
         Err(JsonFault::NoMemory) => Err(AllocError),
     }
 }
 
-/// The place behind a line that ends here.
-fn behind(to: usize, len: usize) -> usize
-    requires { to ≤ len }
-    ensures line { to < len → result ≡ to + 1 }
-    ensures last { to ≡ len → result ≡ to }
+/// Writes the answers to all lines that the reader has left, each with a line feed behind it. Fails where the reader
+/// or the writer does, or for want of memory.
+pub fn answer_lines<R: BufRead, W: Write>(
+    alloc: Global,
+    input: &mut R,
+    output: &mut W,
+) -> io::Result<()>
+    ensures { OnOk result (HasAnswered (R.remaining input.old) (W.contents output.old) (W.contents output.new)) }
 {
-    if to < len { to + 1 } else { to }
-}
-
-/// The answers to all lines, each with a line feed behind it. Fails for want of memory alone.
-pub fn answers(alloc: Global, input: &[u8]) -> Result<Vec<u8>, AllocError>
-    ensures { IfOk result (λ output. Answers input.now output.items) }
-{
-    let mut out = Vec::new(alloc);
-    let mut at = 0;
-    while at < input.len() {
-        let to = line_end(input, at);
-        out = answer(alloc, out, &input[at..to])?;
-        out.push(b'\n')?;
-        at = behind(to, input.len());
+    let mut line = Vec::new(alloc);
+    'lines: for _ in 0..u64::MAX {
+        read_line(input, &mut line)?;
+        if line.is_empty() {
+            return output.flush();
+        }
+        line = answer(alloc, line)?;
+        line.push(b'\n')?;
+        output.write_all(&line)?;
     }
-    Ok(out)
+    Err(ErrorKind::Other.into())
 }

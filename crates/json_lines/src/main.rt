@@ -3,12 +3,14 @@
 
 mod lines;
 
-use lines::answers;
-use std::io::{self, Read, Write};
+use lines::answer_lines;
+use std::io::{self, BufReader, BufWriter};
+
+/// Bytes that are read or written at a time.
+const ROOM: usize = 65536;
 
 fn main(rt: HostRuntime) -> io::Result<()> {
-    let mut input = Vec::new(rt.alloc());
-    rt.stdin().read_to_end(&mut input)?;
-    let output = answers(rt.alloc(), &input)?;
-    io::writer(&rt).write_all(&output)
+    let mut input = BufReader::with_capacity(rt.alloc(), ROOM, rt.stdin())?;
+    let mut output = BufWriter::with_capacity(rt.alloc(), ROOM, io::writer(&rt))?;
+    answer_lines(rt.alloc(), &mut input, &mut output)
 }
