@@ -1,5 +1,6 @@
 -- The spelling of a message, part by part, and that it is a frame.
-use Rattle.std.specs.Prelude.{IsUtf8, codes}
+use Rattle.std.specs.Prelude.{IsUtf8, codes, Result, Ok, Err, IfOk}
+use Rattle.std.proofs.lemmas.Str.{IsUtf8-nil}
 use Rattle.std.proofs.Common.{◌≡◌, ℕ, List, [], ◌∷◌, ◌++◌, Option, Some, refl, ap, sym, ◌∙◌, subst, append_assoc}
 use Rattle.rt_value.specs.Choice.{◌>>=◌}
 use Rattle.rt_json.specs.declared.tree.Json.{Json, Null, Num, Text}
@@ -40,24 +41,32 @@ list_spelled m =
     ∙ five_in_row (91 ∷ []) (44 ∷ []) (44 ∷ []) (44 ∷ []) (44 ∷ []) (written m.join_ref) (written m.reference) (quoted m.topic) (quoted m.event) (written m.payload) (93 ∷ [])
 
 -- what is put behind the other is the spelling
-pub object_out : (m : Message) (o0 o1 o2 o3 o4 o5 : List ℕ) → o0 ≡ [] → o1 ≡ (o0 ++ codes "{\"topic\":") ++ quoted m.topic → o2 ≡ (o1 ++ codes ",\"event\":") ++ quoted m.event
-    → o3 ≡ (o2 ++ codes ",\"payload\":") ++ written m.payload → o4 ≡ (o3 ++ codes ",\"ref\":") ++ written m.reference → o5 ≡ o4 ++ 125 ∷ [] → o5 ≡ spelled V1 m
-object_out m o0 o1 o2 o3 o4 o5 e0 e1 e2 e3 e4 e5 =
+pub object_out : (m : Message) (o0 o1 o2 o3 o4 : List ℕ) → o0 ≡ [] → o1 ≡ (o0 ++ codes "{\"topic\":") ++ quoted m.topic → o2 ≡ (o1 ++ codes ",\"event\":") ++ quoted m.event
+    → o3 ≡ (o2 ++ codes ",\"payload\":") ++ written m.payload → o4 ≡ (o3 ++ codes ",\"ref\":") ++ written m.reference → o4 ++ 125 ∷ [] ≡ spelled V1 m
+object_out m o0 o1 o2 o3 o4 e0 e1 e2 e3 e4 =
     let f1 : o1 ≡ codes "{\"topic\":" ++ quoted m.topic = e1 ∙ ap (λ (o : List ℕ). (o ++ codes "{\"topic\":") ++ quoted m.topic) e0 in
     let f2 = e2 ∙ ap (λ (o : List ℕ). (o ++ codes ",\"event\":") ++ quoted m.event) f1 in
     let f3 = e3 ∙ ap (λ (o : List ℕ). (o ++ codes ",\"payload\":") ++ written m.payload) f2 in
     let f4 = e4 ∙ ap (λ (o : List ℕ). (o ++ codes ",\"ref\":") ++ written m.reference) f3 in
-    e5 ∙ ap (λ (o : List ℕ). o ++ 125 ∷ []) f4 ∙ sym (object_spelled m)
+    ap (λ (o : List ℕ). o ++ 125 ∷ []) f4 ∙ sym (object_spelled m)
 
-pub list_out : (m : Message) (o0 o1 o2 o3 o4 o5 o6 : List ℕ) → o0 ≡ [] → o1 ≡ (o0 ++ 91 ∷ []) ++ written m.join_ref → o2 ≡ (o1 ++ 44 ∷ []) ++ written m.reference
-    → o3 ≡ (o2 ++ 44 ∷ []) ++ quoted m.topic → o4 ≡ (o3 ++ 44 ∷ []) ++ quoted m.event → o5 ≡ (o4 ++ 44 ∷ []) ++ written m.payload → o6 ≡ o5 ++ 93 ∷ [] → o6 ≡ spelled V2 m
-list_out m o0 o1 o2 o3 o4 o5 o6 e0 e1 e2 e3 e4 e5 e6 =
+pub list_out : (m : Message) (o0 o1 o2 o3 o4 o5 : List ℕ) → o0 ≡ [] → o1 ≡ (o0 ++ 91 ∷ []) ++ written m.join_ref → o2 ≡ (o1 ++ 44 ∷ []) ++ written m.reference
+    → o3 ≡ (o2 ++ 44 ∷ []) ++ quoted m.topic → o4 ≡ (o3 ++ 44 ∷ []) ++ quoted m.event → o5 ≡ (o4 ++ 44 ∷ []) ++ written m.payload → o5 ++ 93 ∷ [] ≡ spelled V2 m
+list_out m o0 o1 o2 o3 o4 o5 e0 e1 e2 e3 e4 e5 =
     let f1 : o1 ≡ 91 ∷ [] ++ written m.join_ref = e1 ∙ ap (λ (o : List ℕ). (o ++ 91 ∷ []) ++ written m.join_ref) e0 in
     let f2 = e2 ∙ ap (λ (o : List ℕ). (o ++ 44 ∷ []) ++ written m.reference) f1 in
     let f3 = e3 ∙ ap (λ (o : List ℕ). (o ++ 44 ∷ []) ++ quoted m.topic) f2 in
     let f4 = e4 ∙ ap (λ (o : List ℕ). (o ++ 44 ∷ []) ++ quoted m.event) f3 in
     let f5 = e5 ∙ ap (λ (o : List ℕ). (o ++ 44 ∷ []) ++ written m.payload) f4 in
-    e6 ∙ ap (λ (o : List ℕ). o ++ 93 ∷ []) f5 ∙ sym (list_spelled m)
+    ap (λ (o : List ℕ). o ++ 93 ∷ []) f5 ∙ sym (list_spelled m)
+
+pub no_bytes : (o : List ℕ) → o ≡ [] → IsUtf8 o
+no_bytes o e = subst IsUtf8 (sym e) IsUtf8-nil
+
+-- what stands behind UTF-8 is UTF-8
+pub utf8_behind : {X E : Type 0} (r : Result X E) (bytes : X → List ℕ) (before : List ℕ) → IsUtf8 before → IfOk r (λ all. IsUtf8 before → IsUtf8 (bytes all)) → IfOk r (λ all. IsUtf8 (bytes all))
+utf8_behind (Ok all) bytes before u h = h u
+utf8_behind (Err e) bytes before u h = tt
 
 -- a ref is read as itself, and fits
 ref_same : (r : Json) → IsRef r → ref_of r ≡ Some r

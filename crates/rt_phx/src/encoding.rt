@@ -1,4 +1,4 @@
-ghost use Rattle.std.specs.Prelude.{◌≡◌, ◌++◌, OnOk, IfOk};
+ghost use Rattle.std.specs.Prelude.{◌≡◌, ◌++◌, IfOk, IsUtf8};
 ghost use Rattle.rt_json.specs.declared.tree.Json.{Null};
 ghost use Rattle.rt_json.specs.Written.{written, quoted};
 ghost use Rattle.rt_phx.specs.declared.message.Version.TheVariants.{V1, V2};
@@ -7,53 +7,65 @@ ghost use Rattle.rt_phx.specs.Fits.{FitsFrame};
 ghost use Rattle.rt_phx.specs.Frame.{IsMessage, spelled};
 
 use crate::message::{Message, Version};
-use rt_json::{Json, write, written_again};
+use rt_json::{Json, write_behind, written_again};
 use rt_value::{Bytes, Text};
 use std::alloc::{AllocError, Global};
 
-fn put_tree(alloc: Global, out: &mut Vec<u8>, before: &[u8], tree: &Json) -> Result<(), AllocError>
-    ensures { OnOk result (out.new.items ≡ (out.old.items ++ before.now) ++ written tree.now) }
+fn with_str(out: Vec<u8>, text: &str) -> Result<Vec<u8>, AllocError>
+    ensures spelling { IfOk result (λ all. all.items ≡ out.items ++ text.now) }
+    ensures utf8 { IfOk result (λ all. IsUtf8 out.items → IsUtf8 all.items) }
 {
-    out.extend_from_slice(before)?;
-    out.extend_from_slice(write(alloc, tree)?.get())
+    let mut out = out;
+    out.extend_from_slice(text.as_bytes())?;
+    Ok(out)
 }
 
-fn put_text(alloc: Global, out: &mut Vec<u8>, before: &[u8], text: &Text) -> Result<(), AllocError>
-    ensures { OnOk result (out.new.items ≡ (out.old.items ++ before.now) ++ quoted text.now) }
+fn with_tree(out: Vec<u8>, before: &str, tree: &Json) -> Result<Vec<u8>, AllocError>
+    ensures spelling { IfOk result (λ all. all.items ≡ (out.items ++ before.now) ++ written tree.now) }
+    ensures utf8 { IfOk result (λ all. IsUtf8 out.items → IsUtf8 all.items) }
+{
+    let out = with_str(out, before)?;
+    write_behind(out, tree)
+}
+
+fn with_text(alloc: Global, out: Vec<u8>, before: &str, text: &Text) -> Result<Vec<u8>, AllocError>
+    ensures spelling { IfOk result (λ all. all.items ≡ (out.items ++ before.now) ++ quoted text.now) }
+    ensures utf8 { IfOk result (λ all. IsUtf8 out.items → IsUtf8 all.items) }
 {
     let tree = Json::Text(text.copy(alloc)?);
-    put_tree(alloc, out, before, &tree)
+    with_tree(out, before, &tree)
 }
 
 fn encode_object(alloc: Global, message: &Message) -> Result<Vec<u8>, AllocError>
-    ensures { IfOk result (λ bytes. bytes.items ≡ spelled V1 message.now) }
+    ensures spelling { IfOk result (λ bytes. bytes.items ≡ spelled V1 message.now) }
+    ensures utf8 { IfOk result (λ bytes. IsUtf8 bytes.items) }
 {
-    let mut out = Vec::new(alloc);
-    put_text(alloc, &mut out, b"{\"topic\":", &message.topic)?;
-    put_text(alloc, &mut out, b",\"event\":", &message.event)?;
-    put_tree(alloc, &mut out, b",\"payload\":", &message.payload)?;
-    put_tree(alloc, &mut out, b",\"ref\":", &message.reference)?;
-    out.push(b'}')?;
-    Ok(out)
+    let out = Vec::new(alloc);
+    let out = with_text(alloc, out, "{\"topic\":", &message.topic)?;
+    let out = with_text(alloc, out, ",\"event\":", &message.event)?;
+    let out = with_tree(out, ",\"payload\":", &message.payload)?;
+    let out = with_tree(out, ",\"ref\":", &message.reference)?;
+    with_str(out, "}")
 }
 
 fn encode_list(alloc: Global, message: &Message) -> Result<Vec<u8>, AllocError>
-    ensures { IfOk result (λ bytes. bytes.items ≡ spelled V2 message.now) }
+    ensures spelling { IfOk result (λ bytes. bytes.items ≡ spelled V2 message.now) }
+    ensures utf8 { IfOk result (λ bytes. IsUtf8 bytes.items) }
 {
-    let mut out = Vec::new(alloc);
-    put_tree(alloc, &mut out, b"[", &message.join_ref)?;
-    put_tree(alloc, &mut out, b",", &message.reference)?;
-    put_text(alloc, &mut out, b",", &message.topic)?;
-    put_text(alloc, &mut out, b",", &message.event)?;
-    put_tree(alloc, &mut out, b",", &message.payload)?;
-    out.push(b']')?;
-    Ok(out)
+    let out = Vec::new(alloc);
+    let out = with_tree(out, "[", &message.join_ref)?;
+    let out = with_tree(out, ",", &message.reference)?;
+    let out = with_text(alloc, out, ",", &message.topic)?;
+    let out = with_text(alloc, out, ",", &message.event)?;
+    let out = with_tree(out, ",", &message.payload)?;
+    with_str(out, "]")
 }
 
-/// The one spelling of a message, without blanks: in version 1 the object of `topic`, `event`, `payload` and `ref`, in
-/// version 2 the list of join_ref, ref, topic, event and payload. Fails for want of memory alone.
+/// The one spelling of a message, without blanks and in UTF-8: in version 1 the object of `topic`, `event`, `payload`
+/// and `ref`, in version 2 the list of join_ref, ref, topic, event and payload. Fails for want of memory alone.
 pub fn encode(alloc: Global, version: Version, message: &Message) -> Result<Bytes, AllocError>
-    ensures { IfOk result (λ bytes. bytes ≡ spelled version message.now) }
+    ensures spelling { IfOk result (λ bytes. bytes ≡ spelled version message.now) }
+    ensures utf8 { IfOk result (λ bytes. IsUtf8 bytes) }
 {
     let bytes = match version {
         Version::V1 => encode_object(alloc, message)?,
