@@ -1,14 +1,16 @@
 -- A line and the lines behind it.
 use Rattle.std.proofs.Common.{◌≡◌, ◌≢◌, ℕ, ◌+◌, ◌-◌, ◌<◌, ◌≤◌, Bool, true, false, List, [], ◌∷◌, ◌++◌, refl, ap, subst, sym, ◌∙◌, length, take, drop, get_or, arith, append_assoc, append-nil, length-append, length-drop, not, ◌⊎◌, inl, inr}
-use Rattle.std.specs.Prelude.{◌==◌, ◌&&◌, nat_lt, Result, Ok, Err, IfOk}
-use Rattle.rt_json.specs.Grammar.{IsJson}
+use Rattle.std.specs.Prelude.{◌==◌, ◌&&◌, nat_lt, Result, Ok, Err, IfOk, codes, Vec}
+use Rattle.std.specs.declared.alloc.Global.{Global}
+use Rattle.std.specs.Fmt.{decimal}
+use Rattle.rt_json.specs.Grammar.{IsJson, IsBadAt, IsTooDeepAt}
 use Rattle.rt_json.specs.Written.{written}
 use Rattle.rt_json.specs.declared.tree.Json.{Json}
 use Rattle.std.specs.List.{list_all}
 use Rattle.std.proofs.lemmas.List.{drop_more, drop_all, take-append-drop, drop-drop, take_at}
 use Rattle.std.proofs.lemmas.Bool.{eqb-true, ltb-true, ltb-false}
 use Rattle.json_lines.specs.Lines as l
-use Rattle.json_lines.specs.Lines.{IsAnswer, IsLine, Answers, past_line, choose}
+use Rattle.json_lines.specs.Lines.{IsAnswer, IsAnswerBehind, IsLine, Answers, past_line, choose}
 
 order : (m n : ℕ) → (m < n) ⊎ (n ≤ m)
 order m n = by_test (nat_lt m n) refl
@@ -69,15 +71,12 @@ line_stops (b ∷ bs) = by (b == 10) refl (line_stops bs)
     by true e h = ap (λ (x : Bool). choose x (b ∷ bs) (past_line bs)) e
     by false e h = h
 
-abbrev pub IsAnswerAfter : List ℕ → List ℕ → List ℕ → Type 0
-IsAnswerAfter before line after = (answer : List ℕ) × IsAnswer line answer × (after ≡ before ++ answer)
-
 abbrev pub Completes : List ℕ → ℕ → List ℕ → Type 0
 Completes input at out = (rest : List ℕ) → Answers (drop at input) rest → Answers input (out ++ rest)
 
 -- one line more is answered, and a line feed stands behind it
 pub line_step : (input : List ℕ) (at to next : ℕ) (out answered written : List ℕ) → at ≤ to → to < length input → next ≡ to + 1 → drop to input ≡ past_line (drop at input)
-    → Completes input at out → IsAnswerAfter out (take (to - at) (drop at input)) answered → written ≡ answered ++ 10 ∷ [] → Completes input next written
+    → Completes input at out → IsAnswerBehind out (take (to - at) (drop at input)) answered → written ≡ answered ++ 10 ∷ [] → Completes input next written
 line_step input at to next out answered written le lt is e h (answer, good, same) ends rest k =
     let s = line_slice input at to le (omega (arith, lt)) e in
     let b : ℕ = get_or input to 0 in
@@ -95,7 +94,7 @@ line_step input at to next out answered written le lt is e h (answer, good, same
 
 -- the last line, with no line feed behind it
 pub last_step : (input : List ℕ) (at to : ℕ) (out answered written : List ℕ) → at < to → to ≡ length input → drop to input ≡ past_line (drop at input)
-    → Completes input at out → IsAnswerAfter out (take (to - at) (drop at input)) answered → written ≡ answered ++ 10 ∷ [] → Completes input to written
+    → Completes input at out → IsAnswerBehind out (take (to - at) (drop at input)) answered → written ≡ answered ++ 10 ∷ [] → Completes input to written
 last_step input at to out answered written lt all e h (answer, good, same) ends rest k =
     let s = line_slice input at to (omega (arith, lt)) (omega (arith, all)) e in
     let none : drop to input ≡ [] = drop_all to input (omega (arith, all)) in
@@ -123,22 +122,27 @@ all_done input at out le h =
     let none : drop at input ≡ [] = drop_all at input le in
     subst (Answers input) (append-nil out) (h [] (subst (λ (ys : List ℕ). Answers ys []) (sym none) l.none))
 
-pub tree_answer : {E : Type 0} (line : List ℕ) (tree : Json) (r : Result (List ℕ) E) → IsJson line tree → IfOk r (λ bytes. bytes ≡ written tree) → IfOk r (λ bytes. IsAnswer line bytes)
-tree_answer line tree (Ok bytes) is h = inl (tree, is, h)
-tree_answer line tree (Err e) is h = tt
+pub tree_answer : {E : Type 0} (before line : List ℕ) (tree : Json) (r : Result (Vec ℕ Global) E) → IsJson line tree → IfOk r (λ all. all.items ≡ before ++ written tree) → IfOk r (λ all. IsAnswerBehind before line all.items)
+tree_answer before line tree (Ok all) is h = (written tree, inl (tree, is, refl), h)
+tree_answer before line tree (Err e) is h = tt
+
+pub bad_answer : {E : Type 0} (before line : List ℕ) (at : ℕ) (r : Result (Vec ℕ Global) E) → IsBadAt line at → IfOk r (λ all. all.items ≡ before ++ (codes "bad " ++ decimal at)) → IfOk r (λ all. IsAnswerBehind before line all.items)
+bad_answer before line at (Ok all) is h = (codes "bad " ++ decimal at, inr (inl (at, is, refl)), h)
+bad_answer before line at (Err e) is h = tt
+
+pub deep_answer : {E : Type 0} (before line : List ℕ) (at : ℕ) (r : Result (Vec ℕ Global) E) → IsTooDeepAt line at → IfOk r (λ all. all.items ≡ before ++ (codes "too deep " ++ decimal at)) → IfOk r (λ all. IsAnswerBehind before line all.items)
+deep_answer before line at (Ok all) is h = (codes "too deep " ++ decimal at, inr (inr (at, is, refl)), h)
+deep_answer before line at (Err e) is h = tt
 
 -- a line that is answered, the last or not
-pub step : (input : List ℕ) (at to next : ℕ) (out answer shown answered written : List ℕ) → at < length input → at ≤ to → to ≤ length input → drop to input ≡ past_line (drop at input)
-    → (to < length input → next ≡ to + 1) → (to ≡ length input → next ≡ to) → Completes input at out → IsAnswer (take (to - at) (drop at input)) answer → shown ≡ answer → answered ≡ out ++ shown
+pub step : (input : List ℕ) (at to next : ℕ) (out answered written : List ℕ) → at < length input → at ≤ to → to ≤ length input → drop to input ≡ past_line (drop at input)
+    → (to < length input → next ≡ to + 1) → (to ≡ length input → next ≡ to) → Completes input at out → IsAnswerBehind out (take (to - at) (drop at input)) answered
     → written ≡ answered ++ 10 ∷ [] → (next ≤ length input) × Completes input next written
-step input at to next out answer shown answered written some le within e line last h good same more ends = by (order to (length input))
+step input at to next out answered written some le within e line last h good ends = by (order to (length input))
   where
-    whole : answered ≡ out ++ answer
-    whole = more ∙ ap (λ (ys : List ℕ). out ++ ys) same
-
     by : (to < length input) ⊎ (length input ≤ to) → (next ≤ length input) × Completes input next written
-    by (inl lt) = let n = line lt in (omega (arith, n, lt), line_step input at to next out answered written le lt n e h (answer, good, whole) ends)
+    by (inl lt) = let n = line lt in (omega (arith, n, lt), line_step input at to next out answered written le lt n e h good ends)
     by (inr ge) =
         let all : to ≡ length input = omega (arith, ge, within) in
         let n = last all in
-        (omega (arith, n, within), subst (λ (k : ℕ). Completes input k written) (sym n) (last_step input at to out answered written (omega (arith, some, all)) all e h (answer, good, whole) ends))
+        (omega (arith, n, within), subst (λ (k : ℕ). Completes input k written) (sym n) (last_step input at to out answered written (omega (arith, some, all)) all e h good ends))

@@ -12,6 +12,10 @@ IsAnswer line answer =
     ((tree : Json) × IsJson line tree × (answer ≡ written tree))
     ⊎ (((at : ℕ) × IsBadAt line at × (answer ≡ codes "bad " ++ decimal at)) ⊎ ((at : ℕ) × IsTooDeepAt line at × (answer ≡ codes "too deep " ++ decimal at)))
 
+-- the line's answer stands behind what was there before
+abbrev pub IsAnswerBehind : List ℕ → List ℕ → List ℕ → Type 0
+IsAnswerBehind before line after = (answer : List ℕ) × IsAnswer line answer × (after ≡ before ++ answer)
+
 -- no line feed
 abbrev pub IsLine : List ℕ → Type 0
 IsLine line = list_all (λ b. not (b == 10)) line ≡ true

@@ -1,8 +1,9 @@
-ghost use Rattle.std.specs.Prelude.{◌≡◌, ◌+◌, ◌<◌, ◌≤◌, drop, length, IfOk};
-ghost use Rattle.json_lines.specs.Lines.{Answers, IsAnswer, past_line};
+ghost use Rattle.std.specs.Prelude.{◌≡◌, ◌+◌, ◌++◌, ◌<◌, ◌≤◌, drop, length, IfOk};
+ghost use Rattle.std.specs.Fmt.{decimal};
+ghost use Rattle.json_lines.specs.Lines.{Answers, IsAnswerBehind, past_line};
 
-use rt_json::{JsonFault, read, write};
-use rt_value::Bytes;
+use memchr::memchr;
+use rt_json::{JsonFault, read, write_behind};
 use std::alloc::{AllocError, Global};
 
 /// The place of the first line feed from `at` on.
@@ -12,27 +13,30 @@ fn line_end(input: &[u8], at: usize) -> usize
     ensures within { result ≤ length input.now }
     ensures rest { drop result input.now ≡ past_line (drop at input.now) }
 {
-    let mut to = at;
-    while to < input.len() && input[to] != b'\n' {
-        to += 1;
+    match memchr(b'\n', &input[at..]) {
+        Some(count) => at + count,
+        None => input.len(),
     }
-    to
 }
 
-/// The spelling of the line's tree, or the place of its fault.
-fn answer(alloc: Global, line: &[u8]) -> Result<Bytes, AllocError>
-    ensures { IfOk result (λ bytes. IsAnswer line.now bytes) }
+/// The output with a fault's words and its place behind it.
+fn told(alloc: Global, out: Vec<u8>, words: &str, at: usize) -> Result<Vec<u8>, AllocError>
+    ensures { IfOk result (λ all. all.items ≡ out.items ++ (words.now ++ decimal at)) }
+{
+    let text = format!(in alloc; "{words}{at}")?;
+    let mut out = out;
+    out.extend_from_slice(text.as_bytes())?;
+    Ok(out)
+}
+
+/// The output with the spelling of the line's tree behind it, or the place of its fault.
+fn answer(alloc: Global, out: Vec<u8>, line: &[u8]) -> Result<Vec<u8>, AllocError>
+    ensures { IfOk result (λ all. IsAnswerBehind out.items line.now all.items) }
 {
     match read(alloc, line) {
-        Ok(tree) => write(alloc, &tree),
-        Err(JsonFault::Bad { at }) => {
-            let text = format!(in alloc; "bad {at}")?;
-            Ok(Bytes::new(text.into_bytes()))
-        }
-        Err(JsonFault::TooDeep { at }) => {
-            let text = format!(in alloc; "too deep {at}")?;
-            Ok(Bytes::new(text.into_bytes()))
-        }
+        Ok(tree) => write_behind(out, &tree),
+        Err(JsonFault::Bad { at }) => told(alloc, out, "bad ", at),
+        Err(JsonFault::TooDeep { at }) => told(alloc, out, "too deep ", at),
         Err(JsonFault::NoMemory) => Err(AllocError),
     }
 }
@@ -54,8 +58,7 @@ pub fn answers(alloc: Global, input: &[u8]) -> Result<Vec<u8>, AllocError>
     let mut at = 0;
     while at < input.len() {
         let to = line_end(input, at);
-        let spelled = answer(alloc, &input[at..to])?;
-        out.extend_from_slice(spelled.get())?;
+        out = answer(alloc, out, &input[at..to])?;
         out.push(b'\n')?;
         at = behind(to, input.len());
     }

@@ -1,5 +1,5 @@
 -- What is known of a source and a sink, one call more at a time.
-use Rattle.std.proofs.Common.{◌≡◌, ◌∙◌, ◌++◌, ◌+◌, ◌-◌, ◌≤◌, ◌<◌, ℕ, List, [], Option, Some, None, length, take, drop, ap, sym, refl, arith, append_assoc, subst, take-add}
+use Rattle.std.proofs.Common.{◌≡◌, ◌∙◌, ◌++◌, ◌+◌, ◌-◌, ◌≤◌, ℕ, List, [], Option, Some, None, length, take, drop, ap, sym, refl, arith, append_assoc, subst, take-add}
 use Rattle.std.proofs.lemmas.List.{append-nil, take_all, length-drop, take-append-drop}
 use Rattle.rt_io.specs.Streams.{Puts, Takes}
 use Rattle.rt_io.specs.Whole.{TakesFront}

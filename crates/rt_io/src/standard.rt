@@ -1,4 +1,4 @@
-ghost use Rattle.std.specs.Prelude.{◌≡◌, None};
+ghost use Rattle.std.specs.Prelude.{◌≡◌, IfErr, IfOk, None, Some};
 
 use crate::sink::{Sink, Wrote};
 use crate::source::{Read, Source};
@@ -14,7 +14,9 @@ pub struct StandardSource<R> {
 impl<R: io::Read + Drop> StandardSource<R> {
     /// A source over what was opened. Where it couldn't be opened, each read of the source fails.
     pub fn new(opened: io::Result<R>) -> Self
-        ensures { ⟦<StandardSource<R> as Source>⟧.faults result ≡ 0 }
+        ensures faults { ⟦<StandardSource<R> as Source>⟧.faults result ≡ 0 }
+        ensures kept { IfOk opened (λ reader. result.reader ≡ Some reader) }
+        ensures failing { IfErr opened (λ _. result.reader ≡ None) }
     {
         StandardSource {
             reader: opened.ok(),
@@ -53,7 +55,8 @@ pub struct StandardSink<W> {
 impl<W: io::Write + Drop> StandardSink<W> {
     /// A sink over the writer.
     pub fn new(writer: W) -> Self
-        ensures { ⟦<StandardSink<W> as Sink>⟧.faults result ≡ 0 }
+        ensures faults { ⟦<StandardSink<W> as Sink>⟧.faults result ≡ 0 }
+        ensures kept { result.writer ≡ writer }
     {
         StandardSink { writer, faults: 0 }
     }

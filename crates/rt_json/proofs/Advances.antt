@@ -4,7 +4,7 @@ use Rattle.std.proofs.lemmas.List.{drop_all}
 use Rattle.rt_json.specs.Grammar.{max_levels, is_blank}
 use Rattle.rt_json.specs.Machine as m
 use Rattle.rt_json.specs.Machine.{State, Outcome, outcome}
-use Rattle.rt_json.specs.Reads.{Faults, past_blanks, choose}
+use Rattle.rt_json.specs.Reads.{past_blanks, choose}
 use Rattle.rt_json.specs.States.{Gives}
 use Rattle.rt_json.specs.declared.tree.Json.{Json}
 use Rattle.rt_json.specs.declared.state.Frame.{Frame}

@@ -1,10 +1,9 @@
 -- What is in the grammar is read.
-use Rattle.std.proofs.Common.{◌≡◌, ℕ, zero, suc, ◌+◌, ◌-◌, ◌*◌, ◌<◌, ◌≤◌, ◌⊎◌, inl, inr, Bool, true, false, List, [], ◌∷◌, ◌++◌, Option, Some, None, refl, ap, subst, sym, ◌∙◌, length, append_assoc, append-nil, arith, cond, not}
-use Rattle.std.specs.Prelude.{◌==◌, ◌||◌, nat_lt, nat_le, encode_utf8}
+use Rattle.std.proofs.Common.{◌≡◌, ℕ, zero, suc, ◌<◌, ◌≤◌, ◌⊎◌, inl, inr, Bool, true, false, List, [], ◌∷◌, ◌++◌, Option, Some, None, refl, ap, subst, sym, ◌∙◌, length, append_assoc, append-nil, arith}
+use Rattle.std.specs.Prelude.{◌==◌, ◌||◌, encode_utf8}
 use Rattle.std.proofs.lemmas.Bool.{ne_eqb, lt-ltb, le-ltb, cond_both, eqb-true, or_cases}
 use Rattle.std.proofs.lemmas.Str.{encode_ascii}
-use lib.Utf8.{scalar}
-use Rattle.rt_value.specs.Places.{Answer, next, ends, stuck, reads, reads_on, ended}
+use Rattle.rt_value.specs.Places.{Answer, next, stuck, reads, reads_on}
 use Rattle.rt_json.specs.Text as t
 use Rattle.rt_json.specs.Text.{IsRest, IsText, IsPlain, IsUnit, is_digit}
 use Rattle.rt_json.specs.Grammar as g

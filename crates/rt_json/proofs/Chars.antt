@@ -1,9 +1,9 @@
 -- The character of an escape.
-use Rattle.std.proofs.Common.{◌≡◌, ◌≢◌, ℕ, zero, suc, ◌+◌, ◌-◌, ◌*◌, ◌<◌, ◌≤◌, ◌⊎◌, inl, inr, Bool, true, false, List, [], ◌∷◌, ◌++◌, Option, Some, None, Result, Ok, Err, refl, ap, subst, sym, ◌∙◌, length, drop, get_or, arith, cond}
+use Rattle.std.proofs.Common.{◌≡◌, ◌≢◌, ℕ, ◌+◌, ◌-◌, ◌<◌, ◌≤◌, inl, inr, Bool, true, false, List, [], ◌∷◌, ◌++◌, Option, Some, None, Result, Ok, Err, refl, ap, subst, sym, ◌∙◌, length, drop, get_or, arith}
 use Rattle.std.specs.Prelude.{◌==◌, ◌||◌, encode_utf8}
 use Rattle.std.proofs.lemmas.Bool.{ne_eqb, eq-eqb, eqb-true, or_cases, cond_both}
 use Rattle.std.proofs.lemmas.Str.{encode_ascii}
-use lib.Utf8.{scalar, low_scalar}
+use lib.Utf8.{scalar}
 use Rattle.rt_json.specs.Text.{short_escape, is_high, is_low, pair_code}
 use Rattle.rt_json.specs.Machine as m
 use Rattle.rt_json.specs.Machine.{Slot, Half, Inner, Outcome, bad, outcome}
@@ -11,11 +11,10 @@ use Rattle.rt_json.specs.Reads.{at_text, Faults, InAll, ByteReads, UnitReads, Pa
 use Rattle.rt_json.specs.declared.state.Frame.{Frame}
 use Rattle.rt_json.specs.declared.stop.Stop.{Stop}
 use Rattle.rt_json.specs.declared.stop.Stop.TheVariants as stop
-use Rattle.rt_json.proofs.Steps.{text_goes, text_breaks, text_ends, text_closes}
+use Rattle.rt_json.proofs.Steps.{text_goes, text_breaks, text_ends}
 use Rattle.rt_json.proofs.Units.{byte_faults, half_range}
 use Rattle.rt_json.proofs.Hex.{high_range, low_range}
 use Rattle.rt_json.proofs.Utf8.{is_a_scalar}
-use Rattle.rt_json.proofs.ByteTests.{order}
 
 -- a fault behind what is read
 pub faults_behind : (e : Stop) (o p : Outcome) → o ≡ p → Faults e p → Faults e o

@@ -1,5 +1,5 @@
 -- What the class of a byte says of it.
-use Rattle.std.proofs.Common.{◌≡◌, ℕ, Bool, true, false, cond, refl}
+use Rattle.std.proofs.Common.{◌≡◌, ℕ, true, refl}
 use Rattle.std.specs.Prelude.{◌==◌}
 use Rattle.std.proofs.lemmas.Bool.{eqb-true, cond_both}
 use Rattle.rt_json.specs.Text.{is_digit}
@@ -8,7 +8,6 @@ use Rattle.rt_json.specs.Machine.{class_of}
 use Rattle.rt_json.specs.declared.bytes.Class.{Class}
 use Rattle.rt_json.specs.declared.bytes.Class.TheVariants as c
 use Rattle.rt_json.specs.declared.bytes.Word.TheVariants as w
-use Rattle.rt_json.specs.declared.bytes.Digits.TheVariants as d
 use Rattle.rt_json.proofs.Numbers.{StartsNumber}
 
 abbrev pub IsOf : ℕ → Class → Type 0

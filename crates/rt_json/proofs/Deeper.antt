@@ -1,8 +1,8 @@
 -- With more levels the same is read, and what was too deep goes on.
-use Rattle.std.proofs.Common.{◌≡◌, ℕ, zero, suc, ◌+◌, ◌<◌, ◌≤◌, Bool, true, false, List, [], ◌∷◌, ◌++◌, Option, Some, None, refl, ap, subst, sym, ◌∙◌, length, arith, cond, not, ◌⊎◌, inl, inr}
-use Rattle.std.specs.Prelude.{nat_lt, ◌&&◌, ◌==◌}
-use Rattle.std.proofs.lemmas.Bool.{lt-ltb, le-ltb, ltb-true, ltb-false}
-use Rattle.rt_value.specs.Places.{Answer, next, ends, stuck, run, run_on, reads, reads_on, ended}
+use Rattle.std.proofs.Common.{◌≡◌, ℕ, suc, ◌+◌, ◌<◌, ◌≤◌, Bool, true, false, List, [], ◌∷◌, Some, refl, ap, subst, ◌∙◌, length, arith, not, ◌⊎◌, inl, inr}
+use Rattle.std.specs.Prelude.{nat_lt, ◌&&◌}
+use Rattle.std.proofs.lemmas.Bool.{lt-ltb, le-ltb}
+use Rattle.rt_value.specs.Places.{Answer, next, ends, stuck, run, run_on, reads, reads_on}
 use Rattle.rt_json.specs.Machine as m
 use Rattle.rt_json.specs.Machine.{State, class_of, step, is_deep}
 use Rattle.rt_json.specs.declared.tree.Json.{Json}

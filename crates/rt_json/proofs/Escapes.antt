@@ -1,7 +1,7 @@
 -- What is written of a text is read again as the text.
-use Rattle.std.proofs.Common.{◌≡◌, ◌≢◌, ℕ, zero, suc, ◌+◌, ◌-◌, ◌*◌, ◌/◌, ◌%◌, ◌<◌, ◌≤◌, ◌⊎◌, inl, inr, Bool, true, false, List, [], ◌∷◌, ◌++◌, Option, Some, None, refl, ap, subst, sym, ◌∙◌, arith, append_assoc, append-nil, flat_map, cond}
-use Rattle.std.specs.Prelude.{◌==◌, ◌||◌, nat_lt, nat_le, encode_utf8, IsUtf8}
-use Rattle.std.proofs.lemmas.Bool.{ne_eqb, eq-eqb, eqb-true, eqb-false, lt-ltb, le-ltb, le-leb, lt-leb, leb-true}
+use Rattle.std.proofs.Common.{◌≡◌, ◌≢◌, ℕ, zero, suc, ◌+◌, ◌-◌, ◌*◌, ◌/◌, ◌%◌, ◌<◌, ◌≤◌, ◌⊎◌, inl, inr, Bool, true, false, List, [], ◌∷◌, ◌++◌, Some, refl, ap, subst, sym, ◌∙◌, arith, append_assoc, append-nil, flat_map}
+use Rattle.std.specs.Prelude.{◌==◌, encode_utf8, IsUtf8}
+use Rattle.std.proofs.lemmas.Bool.{ne_eqb, eqb-true, eqb-false, lt-ltb, le-ltb, le-leb, lt-leb, leb-true}
 use Rattle.std.proofs.lemmas.Str.{encode_ascii}
 use lib.Utf8.{scalar, scalars, encodes, low_scalar}
 use Rattle.rt_json.specs.Text as t
@@ -13,12 +13,12 @@ use Rattle.rt_json.specs.Machine.{in_tail}
 use Rattle.rt_json.proofs.Utf8.{Fills, multibyte}
 use Rattle.rt_json.proofs.ByteTests.{both, order}
 
-flat-append : (xs ys : List ℕ) → flat_map written_byte (xs ++ ys) ≡ flat_map written_byte xs ++ flat_map written_byte ys
+pub flat-append : (xs ys : List ℕ) → flat_map written_byte (xs ++ ys) ≡ flat_map written_byte xs ++ flat_map written_byte ys
 flat-append [] ys = refl
 flat-append (x ∷ xs) ys = ap (λ (zs : List ℕ). written_byte x ++ zs) (flat-append xs ys) ∙ sym (append_assoc (written_byte x) (flat_map written_byte xs) (flat_map written_byte ys))
 
 -- a byte from 32 on that is neither a quote nor a backslash stands for itself
-plain_written : (b : ℕ) → 32 ≤ b → b ≢ 34 → b ≢ 92 → written_byte b ≡ b ∷ []
+pub plain_written : (b : ℕ) → 32 ≤ b → b ≢ 34 → b ≢ 92 → written_byte b ≡ b ∷ []
 unfolding written_byte
 plain_written b l no34 no92 =
     let e8 : b ≢ 8 = omega arith in let e9 : b ≢ 9 = omega arith in let e10 : b ≢ 10 = omega arith in let e12 : b ≢ 12 = omega arith in let e13 : b ≢ 13 = omega arith in
@@ -45,7 +45,7 @@ fills_written kind (suc count) (b ∷ bs) f =
 fills_written kind zero [] f = absurd f
 fills_written kind (suc count) [] f = absurd f
 
-char_written : (ch : ℕ) → scalar ch ≡ true → 128 ≤ ch → flat_map written_byte (encode_utf8 ch) ≡ encode_utf8 ch
+pub char_written : (ch : ℕ) → scalar ch ≡ true → 128 ≤ ch → flat_map written_byte (encode_utf8 ch) ≡ encode_utf8 ch
 char_written ch sc high =
     let mb = multibyte ch sc high in
     ap (flat_map written_byte) mb.bytes ∙ ap (λ (xs : List ℕ). xs ++ flat_map written_byte mb.more) (high_written mb.first mb.high)

@@ -1,11 +1,10 @@
 -- What an outcome says of a text, clause by clause.
-use Rattle.std.proofs.Common.{◌≡◌, ℕ, ◌-◌, ◌≤◌, List, Option, Some, None, refl, ap, subst, sym, ◌∙◌, length}
+use Rattle.std.proofs.Common.{◌≡◌, ℕ, ◌-◌, ◌≤◌, List, Some, None, ap, subst, sym, ◌∙◌, length}
 use Rattle.rt_json.specs.Grammar.{IsJson, IsBadAt, IsTooDeepAt}
 use Rattle.rt_json.specs.Machine as m
 use Rattle.rt_json.specs.Machine.{Outcome, is_tree, bad, too_deep, outcome, start, tree_of}
 use Rattle.rt_json.specs.declared.tree.Json.{Json}
-use Rattle.rt_json.proofs.Meaning.{Means, outcome_means, json_outcome, tree_again}
-use Rattle.rt_json.proofs.One.{bad_once, deep_once, not_both, bad_tree, deep_tree}
+use Rattle.rt_json.proofs.Meaning.{Means, outcome_means, json_outcome}
 
 pub tree_is : (bytes : List ℕ) (t : Json) → outcome start bytes ≡ is_tree t → IsJson bytes t
 tree_is bytes t e = subst (Means bytes) e (outcome_means bytes)

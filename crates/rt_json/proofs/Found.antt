@@ -1,10 +1,10 @@
 -- What was read stands so in the grammar: a step back over a byte.
-use Rattle.std.proofs.Common.{◌≡◌, ℕ, zero, suc, ◌+◌, ◌-◌, ◌*◌, ◌<◌, ◌≤◌, ◌⊎◌, inl, inr, Bool, true, false, List, [], ◌∷◌, ◌++◌, Option, Some, None, refl, ap, subst, sym, ◌∙◌, length, append_assoc, append-nil, arith, cond, not}
-use Rattle.std.specs.Prelude.{◌==◌, nat_lt, nat_le, encode_utf8}
+use Rattle.std.proofs.Common.{◌≡◌, ℕ, zero, suc, ◌+◌, ◌*◌, ◌<◌, ◌≤◌, inl, inr, Bool, true, false, List, [], ◌∷◌, ◌++◌, Option, Some, None, refl, ap, subst, sym, ◌∙◌, length, append_assoc, append-nil, arith}
+use Rattle.std.specs.Prelude.{◌==◌, nat_lt, encode_utf8}
 use Rattle.std.proofs.lemmas.Bool.{cond_both, eqb-true, eqb-false, ltb-true, ltb-false}
 use Rattle.std.proofs.lemmas.Str.{encode_ascii}
 use lib.Utf8.{scalar, low_scalar}
-use Rattle.rt_value.specs.Places.{Answer, next, ends, stuck}
+use Rattle.rt_value.specs.Places.{Answer}
 use Rattle.rt_value.proofs.Places.{seen, RestOf}
 use Rattle.rt_json.specs.Text.{short_escape, hex_value, is_high, is_low, pair_code, IsRest, IsText, IsPlain, IsUnit}
 use Rattle.rt_json.specs.Text as t
@@ -26,8 +26,8 @@ use Rattle.rt_json.specs.declared.bytes.Digits.{Digits}
 use Rattle.rt_json.specs.declared.bytes.Tail.{Tail}
 use Rattle.rt_json.proofs.Classes.{IsOf, class_means}
 use Rattle.rt_json.proofs.Numbers.{number_ends, ends_on, number_found}
-use Rattle.rt_json.proofs.Utf8.{Fills, lead_means, character}
-use Rattle.rt_json.proofs.Rest.{Behind, BehindValue, BehindItem, BehindMember, AtValue, AtName, AtFirstName, AtColon, AtFirstItem, Outside, AtRest, Digit, BehindUnit, Unit0, Unit1, Unit2, Unit3, InText, BehindText, Rest, inside, left}
+use Rattle.rt_json.proofs.Utf8.{lead_means, character}
+use Rattle.rt_json.proofs.Rest.{Behind, BehindValue, BehindItem, BehindMember, AtValue, AtName, AtFirstName, AtColon, AtFirstItem, Outside, AtRest, BehindUnit, Unit0, Unit1, Unit2, Unit3, InText, BehindText, Rest, inside, left}
 
 -- a byte that is known
 at : (P : List ℕ → Type 0) (b n : ℕ) (zs : List ℕ) → b ≡ n → P (n ∷ zs) → P (b ∷ zs)

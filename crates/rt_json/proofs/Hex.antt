@@ -1,7 +1,7 @@
 -- Hexadecimal digits, and the halves of a pair.
-use Rattle.std.proofs.Common.{◌≡◌, ℕ, ◌+◌, ◌-◌, ◌*◌, ◌<◌, ◌≤◌, Bool, true, false, Option, Some, None, refl, arith, ◌⊎◌, inl, inr, cond, not}
+use Rattle.std.proofs.Common.{◌≡◌, ℕ, ◌+◌, ◌*◌, ◌<◌, ◌≤◌, Bool, true, false, Option, Some, None, refl, arith, ◌⊎◌, inl, inr, not}
 use Rattle.std.specs.Prelude.{◌&&◌, nat_le, nat_lt}
-use Rattle.std.proofs.lemmas.Bool.{cond_both, leb-true, leb-false, le-leb, lt-leb, ltb-true, lt-ltb, le-ltb, eq-eqb}
+use Rattle.std.proofs.lemmas.Bool.{cond_both, leb-true, le-leb, lt-leb, ltb-true, lt-ltb, le-ltb, eq-eqb}
 use lib.Utf8.{scalar, scalar_cases}
 use Rattle.rt_json.specs.Text.{is_digit, hex_value, is_high, is_low}
 use Rattle.rt_json.specs.Machine.{Half, first_unit, second_unit, first_digit, two_digits, is_low_front}

@@ -1,7 +1,6 @@
 -- The last member of a name.
-use Rattle.std.specs.Prelude.{MatchOption}
 use Rattle.std.specs.Str.{bytes_eq}
-use Rattle.std.proofs.Common.{◌≡◌, ℕ, ◌+◌, ◌-◌, ◌<◌, ◌≤◌, Bool, true, List, [], ◌∷◌, ◌++◌, Option, Some, None, refl, ap, sym, ◌∙◌, subst, length, take, drop, get_or, arith, cond}
+use Rattle.std.proofs.Common.{◌≡◌, ℕ, ◌+◌, ◌<◌, Bool, true, List, [], ◌∷◌, ◌++◌, Option, Some, None, refl, ap, sym, ◌∙◌, length, take, drop, get_or, cond}
 use Rattle.std.proofs.lemmas.List.{drop_more, take-append-drop}
 use Rattle.rt_json.specs.Grammar.{member}
 use Rattle.rt_json.specs.Lookup.{last_named, or_else, members_of, member_of, row_members}

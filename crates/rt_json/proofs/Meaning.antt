@@ -1,7 +1,7 @@
 -- What reading gives is the tree of the grammar, or the place of the fault.
-use Rattle.std.proofs.Common.{◌≡◌, ℕ, zero, suc, ◌+◌, ◌-◌, ◌<◌, ◌≤◌, Bool, true, false, List, [], ◌∷◌, ◌++◌, Option, Some, None, refl, ap, subst, sym, ◌∙◌, length, take, arith, append_assoc, append-nil, length-append}
+use Rattle.std.proofs.Common.{◌≡◌, ℕ, ◌+◌, ◌-◌, ◌≤◌, Bool, true, false, List, [], ◌∷◌, ◌++◌, Some, None, refl, ap, subst, sym, ◌∙◌, length, take, arith, append_assoc, append-nil, length-append}
 use Rattle.std.proofs.Math.Seq.{take-length}
-use Rattle.rt_value.specs.Places.{Begins, Answer, next, ends, stuck, run, run_on, reads, reads_on, ended}
+use Rattle.rt_value.specs.Places.{Begins, Answer, next, ends, stuck, run, reads, reads_on, ended}
 use Rattle.rt_value.proofs.Places as p
 use Rattle.rt_json.specs.Grammar as g
 use Rattle.rt_json.specs.Grammar.{AreBlanks, IsWithin, IsJson, BeginsValue, IsBadAt, IsTooDeepAt, max_levels}
@@ -11,8 +11,8 @@ use Rattle.rt_json.specs.declared.tree.Json.{Json}
 use Rattle.rt_json.proofs.Again.{json_again}
 use Rattle.rt_json.proofs.Found.{step_found}
 use Rattle.rt_json.proofs.Some.{Sound, IsNext, state_some, step_sound, byte_sound}
-use Rattle.rt_json.proofs.Rest.{Rest, BehindValue, left}
-use Rattle.rt_json.proofs.Deeper.{next_keeps, stuck_keeps, deep_goes, run_keeps, reads_keeps}
+use Rattle.rt_json.proofs.Rest.{Rest, left}
+use Rattle.rt_json.proofs.Deeper.{stuck_keeps, deep_goes, run_keeps, reads_keeps}
 
 start_written : (levels : ℕ) (xs : List ℕ) (tree : Json) → Rest levels start xs tree → IsWithin levels tree xs
 start_written levels xs tree (v, first, last, bl, is, (after, same)) =

@@ -1,5 +1,5 @@
 -- A text is one tree, or has one fault at one place.
-use Rattle.std.proofs.Common.{◌≡◌, ℕ, ◌+◌, ◌-◌, ◌<◌, ◌≤◌, ◌⊎◌, inl, inr, List, [], ◌++◌, refl, ap, subst, sym, ◌∙◌, length, take, drop, arith, append_assoc}
+use Rattle.std.proofs.Common.{◌≡◌, ℕ, ◌+◌, ◌-◌, ◌<◌, ◌≤◌, ◌⊎◌, inl, inr, List, [], ◌++◌, subst, sym, length, take, drop, arith, append_assoc}
 use Rattle.std.proofs.lemmas.List.{take-append-drop, take-take, append-nil}
 use Rattle.rt_value.specs.Places.{Begins}
 use Rattle.rt_json.specs.Grammar.{IsWithin, IsJson, BeginsValue, IsBadAt, IsTooDeepAt, max_levels}

@@ -1,8 +1,8 @@
 -- What may follow in a state: the bytes zs bring it to its end, with the tree out.
-use Rattle.std.proofs.Common.{◌≡◌, ℕ, suc, ◌+◌, ◌-◌, ◌*◌, ◌⊎◌, Bool, true, false, List, [], ◌∷◌, ◌++◌, Option, Some, None, length}
+use Rattle.std.proofs.Common.{◌≡◌, ℕ, suc, ◌+◌, ◌-◌, ◌*◌, ◌⊎◌, true, List, [], ◌∷◌, ◌++◌, Some, length}
 use Rattle.std.specs.Prelude.{encode_utf8}
 use Rattle.std.specs.Char.{IsScalar}
-use Rattle.rt_json.specs.Text.{short_escape, hex_value, is_high, is_low, pair_code, IsUnit, IsRest, IsText}
+use Rattle.rt_json.specs.Text.{short_escape, hex_value, is_high, is_low, pair_code, IsUnit, IsRest}
 use Rattle.rt_json.specs.Grammar.{AreBlanks, IsValue, MoreItems, IsMember, MoreMembers, member}
 use Rattle.rt_json.specs.Machine as m
 use Rattle.rt_json.specs.Machine.{Inner, Half, Slot, State}
@@ -13,7 +13,6 @@ use Rattle.rt_json.specs.declared.state.Frame.{Frame}
 use Rattle.rt_json.specs.declared.state.Frame.TheVariants as frame
 use Rattle.rt_json.specs.declared.state.Mode.{Mode}
 use Rattle.rt_json.specs.declared.state.Mode.TheVariants as mode
-use Rattle.rt_json.specs.declared.bytes.Tail.{Tail}
 use Rattle.rt_json.proofs.Numbers.{number_ends}
 use Rattle.rt_json.proofs.Utf8.{Fills}
 

@@ -1,14 +1,13 @@
 -- A run of plain bytes is UTF-8 and goes into the text, or breaks where a character breaks.
-use Rattle.std.proofs.Common.{◌≡◌, ◌≢◌, ℕ, zero, suc, ◌+◌, ◌-◌, ◌<◌, ◌≤◌, ◌⊎◌, inl, inr, Bool, true, false, List, [], ◌∷◌, ◌++◌, Option, Some, None, refl, ap, subst, sym, ◌∙◌, length, drop, take, get_or, arith, append_assoc, append-nil, length-append, length-drop, cond, not}
-use Rattle.std.specs.Prelude.{◌==◌, ◌&&◌, nat_lt, nat_le, encode_utf8, IsUtf8}
+use Rattle.std.proofs.Common.{◌≡◌, ℕ, zero, suc, ◌+◌, ◌-◌, ◌<◌, ◌≤◌, ◌⊎◌, inl, inr, Bool, true, false, List, [], ◌∷◌, ◌++◌, Option, Some, None, refl, ap, subst, sym, ◌∙◌, length, drop, take, get_or, arith, append_assoc, append-nil, length-append, length-drop, cond, not}
+use Rattle.std.specs.Prelude.{◌==◌, ◌&&◌, nat_le, encode_utf8, IsUtf8}
 use Rattle.std.specs.List.{list_all}
 use Rattle.std.proofs.lemmas.List.{drop_more, take_more, drop_all}
 use Rattle.std.proofs.lemmas.List.Folds.{list_all-append}
-use Rattle.std.proofs.lemmas.Bool.{ne_eqb, lt-ltb, le-ltb, leb-true, leb-false, eqb-true, eqb-false, ltb-true, ltb-false, not-true, cond_both, lt-leb}
+use Rattle.std.proofs.lemmas.Bool.{ne_eqb, lt-ltb, le-ltb, leb-true, leb-false, eqb-true, not-true, lt-leb}
 use Rattle.std.proofs.lemmas.Str.{encode_ascii, IsUtf8-append, IsUtf8-encode, IsUtf8-nil}
 use Rattle.std.proofs.Math.Seq.{take-length}
 use lib.Utf8.{scalar, scalars, encodes, low_scalar}
-use Rattle.rt_json.specs.Text.{IsPlain}
 use Rattle.rt_json.specs.Machine as m
 use Rattle.rt_json.specs.Machine.{Slot, Inner, Outcome, bad, outcome, in_tail, lead}
 use Rattle.rt_json.specs.Reads.{is_plain, choose, past_plain, char_step, char_led, char_left, at_text, BreaksAt}

@@ -1,11 +1,10 @@
 -- Numbers and words, from their first byte on.
-use Rattle.std.proofs.Common.{◌≡◌, ◌≢◌, ℕ, ◌+◌, ◌-◌, ◌<◌, ◌≤◌, ◌⊎◌, inl, inr, Bool, true, false, List, [], ◌∷◌, ◌++◌, Option, Some, None, Ok, Err, refl, ap, subst, sym, ◌∙◌, length, drop, take, get_or, arith, append_assoc, append-nil, length-append, length-drop, cond}
+use Rattle.std.proofs.Common.{◌≡◌, ◌≢◌, ℕ, ◌+◌, ◌-◌, ◌<◌, ◌≤◌, ◌⊎◌, inl, inr, Bool, true, false, List, [], ◌∷◌, ◌++◌, Option, Some, None, Ok, Err, refl, ap, subst, sym, ◌∙◌, length, drop, take, get_or, arith, append_assoc, append-nil, length-drop}
 use Rattle.std.specs.Prelude.{◌==◌, ◌||◌, IsUtf8}
 use Rattle.std.proofs.lemmas.Bool.{cond_both, eqb-true, ne_eqb, eq-eqb, or_cases, leb-true}
 use Rattle.std.proofs.lemmas.List.{drop_more, drop_all}
 use Rattle.std.proofs.lemmas.Str.{IsUtf8-append, IsUtf8-encode, IsUtf8-nil, encode_ascii}
 use lib.Utf8.{low_scalar}
-use Rattle.rt_value.specs.Places.{Answer, next, stuck}
 use Rattle.rt_json.specs.Text.{is_digit}
 use Rattle.rt_json.specs.Grammar.{max_levels}
 use Rattle.rt_json.specs.Machine as m

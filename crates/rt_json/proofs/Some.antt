@@ -1,5 +1,5 @@
 -- In every sound state some bytes lead to the end, and a step leads to sound states.
-use Rattle.std.proofs.Common.{◌≡◌, ℕ, zero, suc, ◌+◌, ◌-◌, ◌*◌, ◌<◌, ◌≤◌, ◌⊎◌, inl, inr, Bool, true, false, List, [], ◌∷◌, ◌++◌, Option, Some, None, refl, length, append-nil, arith, cond, subst, sym, ap, not}
+use Rattle.std.proofs.Common.{◌≡◌, ℕ, zero, suc, ◌+◌, ◌*◌, ◌<◌, ◌≤◌, ◌⊎◌, inl, inr, Bool, true, false, List, [], ◌∷◌, ◌++◌, Option, Some, None, refl, length, arith, not}
 use Rattle.std.specs.Prelude.{◌==◌, nat_lt, encode_utf8}
 use Rattle.std.proofs.lemmas.Bool.{cond_both, eqb-true}
 use lib.Utf8.{scalar, low_scalar}

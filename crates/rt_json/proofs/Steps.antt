@@ -1,7 +1,7 @@
 -- A step of the reader from a place on.
-use Rattle.std.proofs.Common.{◌≡◌, ℕ, zero, suc, ◌+◌, ◌-◌, ◌<◌, ◌≤◌, Bool, true, false, List, [], ◌∷◌, ◌++◌, Option, Some, None, refl, ap, subst, sym, ◌∙◌, length, drop, take, get_or, arith, append_assoc, length-append, length-drop}
+use Rattle.std.proofs.Common.{◌≡◌, ℕ, ◌+◌, ◌-◌, ◌<◌, ◌≤◌, Bool, false, List, ◌∷◌, ◌++◌, refl, ap, sym, ◌∙◌, length, drop, take, get_or, arith, length-append, length-drop}
 use Rattle.std.proofs.lemmas.List.{drop_more, drop_all, take-append-drop, drop-drop, take_at}
-use Rattle.rt_value.specs.Places.{Answer, next, ends, stuck}
+use Rattle.rt_value.specs.Places.{next, stuck}
 use Rattle.rt_json.specs.Grammar.{max_levels}
 use Rattle.rt_json.specs.Machine as m
 use Rattle.rt_json.specs.Machine.{State, Slot, Inner, Outcome, bad, too_deep, outcome, is_deep}

@@ -1,11 +1,10 @@
 -- A text in pieces: runs of plain bytes, and escapes.
-use Rattle.std.proofs.Common.{◌≡◌, ◌≢◌, ℕ, ◌+◌, ◌-◌, ◌<◌, ◌≤◌, ◌⊎◌, inl, inr, Bool, true, false, List, [], ◌∷◌, ◌++◌, Result, Ok, Err, refl, ap, subst, sym, ◌∙◌, length, drop, get_or, arith}
-use Rattle.std.specs.Prelude.{◌==◌, encode_utf8}
-use Rattle.std.proofs.lemmas.Bool.{ne_eqb, eq-eqb, lt-ltb, le-leb}
-use Rattle.std.proofs.lemmas.List.{drop_more}
+use Rattle.std.proofs.Common.{◌≡◌, ◌≢◌, ℕ, ◌+◌, ◌-◌, ◌<◌, ◌≤◌, ◌⊎◌, inl, inr, true, false, List, ◌∷◌, ◌++◌, Result, Ok, Err, refl, ap, subst, sym, ◌∙◌, length, drop, get_or, arith}
+use Rattle.std.specs.Prelude.{encode_utf8}
+use Rattle.std.proofs.lemmas.Bool.{ne_eqb, lt-ltb, le-leb}
 use Rattle.rt_json.specs.Machine as m
 use Rattle.rt_json.specs.Machine.{Slot, Outcome, bad, outcome}
-use Rattle.rt_json.specs.Reads.{is_plain, past_plain, at_text, Faults, InAll, MoreReads, ReadsChar}
+use Rattle.rt_json.specs.Reads.{is_plain, past_plain, at_text, InAll, MoreReads, ReadsChar}
 use Rattle.rt_json.specs.declared.state.Frame.{Frame}
 use Rattle.rt_json.specs.declared.stop.Stop.{Stop}
 use Rattle.rt_json.proofs.Chars.{faults_behind}

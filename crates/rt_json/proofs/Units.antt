@@ -1,11 +1,10 @@
 -- The digits of an escape, and its two halves.
-use Rattle.std.proofs.Common.{◌≡◌, ◌≢◌, ℕ, zero, suc, ◌+◌, ◌-◌, ◌*◌, ◌<◌, ◌≤◌, ◌⊎◌, inl, inr, Bool, true, false, List, [], ◌∷◌, ◌++◌, Option, Some, None, Result, Ok, Err, refl, ap, subst, sym, ◌∙◌, length, drop, get_or, arith, append_assoc, cond, not}
-use Rattle.std.specs.Prelude.{◌==◌, encode_utf8}
+use Rattle.std.proofs.Common.{◌≡◌, ◌≢◌, ℕ, ◌+◌, ◌-◌, ◌*◌, ◌<◌, ◌≤◌, ◌⊎◌, inl, inr, Bool, true, false, List, ◌++◌, None, Ok, Err, refl, ap, sym, ◌∙◌, length, drop, get_or, arith, cond, not}
+use Rattle.std.specs.Prelude.{encode_utf8}
 use Rattle.std.proofs.lemmas.Bool.{ne_eqb, eq-eqb}
-use Rattle.std.proofs.lemmas.Str.{encode_ascii}
 use mathlib.Core.Bool.{beq}
 use lib.Utf8.{scalar, low_scalar}
-use Rattle.rt_json.specs.Text.{hex_value, short_escape, is_high, is_low, pair_code}
+use Rattle.rt_json.specs.Text.{hex_value, is_high, is_low, pair_code}
 use Rattle.rt_json.specs.Machine as m
 use Rattle.rt_json.specs.Machine.{Slot, Half, Inner, Outcome, bad, outcome, is_low_front, first_digit, two_digits}
 use Rattle.rt_json.specs.Reads.{at_text, Faults, InAll, DigitReads, ByteReads, IsHalfOf, ReadsPart, FailsPart, FirstReads, FrontReads, UnitReads, after_text}

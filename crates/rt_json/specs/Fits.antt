@@ -1,5 +1,5 @@
 -- The trees whose spelling is read again.
-use Rattle.std.specs.Prelude.{ℕ, zero, suc, List, IsUtf8}
+use Rattle.std.specs.Prelude.{ℕ, zero, suc, IsUtf8}
 use Rattle.std.specs.List.{AllByRecursion}
 use Rattle.rt_json.specs.Text.{IsNumber}
 use Rattle.rt_json.specs.declared.tree.Json.{Json, out-Json}

@@ -1,5 +1,5 @@
 -- How a reader goes on, a byte at a time. It is the middle between the grammar and the code, and computes the tree of a text.
-use Rattle.std.specs.Prelude.{◌≡◌, ℕ, zero, suc, ◌+◌, ◌-◌, ◌*◌, Bool, true, false, ◌==◌, ◌||◌, ◌&&◌, not, nat_le, nat_lt, if◌then◌else◌, List, [], ◌∷◌, ◌++◌, length, Option, Some, None, encode_utf8}
+use Rattle.std.specs.Prelude.{ℕ, zero, suc, ◌+◌, ◌*◌, Bool, true, false, ◌==◌, ◌||◌, ◌&&◌, not, nat_le, nat_lt, if◌then◌else◌, List, [], ◌∷◌, ◌++◌, length, Option, Some, None, encode_utf8}
 use lib.Utf8.{scalar}
 use Rattle.rt_value.specs.Places.{Answer, next, ends, stuck}
 use Rattle.rt_json.specs.Text.{is_digit, short_escape, hex_value, is_high, is_low, pair_code}

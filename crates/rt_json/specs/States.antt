@@ -1,5 +1,5 @@
 -- What a step from a state does, in words of the middle.
-use Rattle.std.specs.Prelude.{◌≡◌, ℕ, ◌<◌, ◌≤◌, true, false, nat_lt, List, length, drop, slice_index, Result, Ok, Err}
+use Rattle.std.specs.Prelude.{◌≡◌, ℕ, ◌<◌, ◌≤◌, true, false, nat_lt, List, length, drop, Result, Ok, Err}
 use Rattle.rt_value.specs.Places.{Answer, next, stuck}
 use Rattle.rt_json.specs.Grammar.{max_levels}
 use Rattle.rt_json.specs.Machine as m

@@ -1,6 +1,6 @@
 -- What a tree is, one level of it.
 use Rattle.std.specs.Prelude.{ℕ, Bool, true, false, List, [], ◌∷◌, Option, Some, None}
-use Rattle.rt_json.specs.declared.tree.Json.{Json, Null, Bool as Truth, Num, Text, List', Object', Row_of-Json, end_of-Json, more_of-Json}
+use Rattle.rt_json.specs.declared.tree.Json.{Json, Null, Text, List', Object', Row_of-Json, end_of-Json, more_of-Json}
 use Rattle.rt_json.specs.declared.tree.named.Member.{Member}
 use Rattle.rt_json.specs.Grammar.{member}
 

@@ -22,4 +22,4 @@ pub use lookup::member;
 pub use reading::{one_fault, one_tree, read};
 pub use tree::Json;
 pub use tree::named::Member;
-pub use writing::{write, written_again};
+pub use writing::{write, write_behind, written_again};

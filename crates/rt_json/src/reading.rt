@@ -23,6 +23,7 @@ use rt_value::List;
 use std::alloc::Global;
 
 /// A value or a blank, where a value is wanted.
+#[inline(always)]
 fn value(
     alloc: Global,
     stack: Stack<Frame>,
@@ -61,6 +62,7 @@ fn value(
 }
 
 /// A first item, the end of an empty list or a blank.
+#[inline(always)]
 fn first_item(
     alloc: Global,
     stack: Stack<Frame>,
@@ -90,6 +92,7 @@ fn first_item(
 }
 
 /// The rest of a name behind its opening quote.
+#[inline(always)]
 fn name(
     alloc: Global,
     stack: Stack<Frame>,
@@ -106,6 +109,7 @@ fn name(
 }
 
 /// Behind `{`.
+#[inline(always)]
 fn first_name(
     alloc: Global,
     stack: Stack<Frame>,
@@ -127,6 +131,7 @@ fn first_name(
 }
 
 /// Behind a comma in an object.
+#[inline(always)]
 fn next_name(
     alloc: Global,
     stack: Stack<Frame>,
@@ -149,6 +154,7 @@ fn next_name(
 }
 
 /// Goes on from a state: over a byte, or over a word, a number or a text.
+#[inline(always)]
 fn advance(alloc: Global, state: State, bytes: &[u8], at: usize) -> Result<(State, usize), Stop>
     requires { at < length bytes.now }
     ensures { Advances bytes.now at (state_of state) result }
@@ -173,6 +179,7 @@ fn advance(alloc: Global, state: State, bytes: &[u8], at: usize) -> Result<(Stat
 }
 
 /// The tree, if the text may end in the state.
+#[inline(always)]
 fn finished(state: State) -> Result<Json, Stop>
     ensures { Gives result (spec.finished (spec.end_step (state_of state))) }
 {

@@ -49,6 +49,7 @@ pub struct State {
 const MAX_LEVELS: usize = 64;
 
 /// Puts a value into what is open.
+#[inline(always)]
 pub fn completed(stack: Stack<Frame>, tree: Json) -> Result<State, AllocError>
     ensures { IfOk result (λ s. state s ≡ spec.completed stack tree) }
 {
@@ -76,6 +77,7 @@ pub fn completed(stack: Stack<Frame>, tree: Json) -> Result<State, AllocError>
 }
 
 /// Begins a list or an object.
+#[inline(always)]
 pub fn opened(stack: Stack<Frame>, mode: Mode, left: usize) -> Result<State, Stop>
     ensures { OpensTo stack mode left result }
 {
@@ -86,6 +88,7 @@ pub fn opened(stack: Stack<Frame>, mode: Mode, left: usize) -> Result<State, Sto
     }
 }
 
+#[inline(always)]
 pub fn after_item(
     stack: Stack<Frame>,
     items: List<Json>,
@@ -115,6 +118,7 @@ pub fn after_item(
 }
 
 /// Behind `{`, where no name begins.
+#[inline(always)]
 pub fn at_first_name(
     alloc: Global,
     stack: Stack<Frame>,
@@ -138,6 +142,7 @@ pub fn at_first_name(
 }
 
 /// Behind a comma in an object, where no name begins.
+#[inline(always)]
 pub fn at_name(
     stack: Stack<Frame>,
     members: List<Member>,
@@ -156,6 +161,7 @@ pub fn at_name(
     }
 }
 
+#[inline(always)]
 pub fn at_colon(
     stack: Stack<Frame>,
     members: List<Member>,
@@ -181,6 +187,7 @@ pub fn at_colon(
     }
 }
 
+#[inline(always)]
 pub fn after_member(
     stack: Stack<Frame>,
     members: List<Member>,
@@ -206,6 +213,7 @@ pub fn after_member(
     }
 }
 
+#[inline(always)]
 pub fn after_all(stack: Stack<Frame>, tree: Json, class: Class, left: usize) -> Result<State, Stop>
     ensures { Steps left result (spec.after_all stack tree class) }
 {

@@ -1,13 +1,15 @@
 ghost use Rattle.std.specs.Prelude.{◌≡◌, ◌≤◌, ◌+◌, ◌<◌, ◌^◌, drop, length, string_bytes, IsUtf8, true};
-ghost use Rattle.std.specs.List.{list_all};
+ghost use Rattle.std.specs.List.{list_all, prefix_len};
 ghost use Rattle.rt_json.specs.Machine as spec;
-ghost use Rattle.rt_json.specs.Reads.{is_plain, past_plain, char_step, TextReads, MoreReads, Utf8Reads, BreaksAt, EscapeReads, CharReads, LowReads, UnitReads, FirstReads, FrontReads, DigitReads, ByteReads, PairReads};
+ghost use Rattle.rt_json.specs.Reads.{is_ascii_plain, is_plain, past_plain, char_step, TextReads, MoreReads, RunReads, StandsAt, Utf8Reads, BreaksAt, EscapeReads, CharReads, LowReads, UnitReads, FirstReads, FrontReads, DigitReads, ByteReads, PairReads};
 
 use crate::bytes::{Tail, hex_value, in_tail, lead, short_escape};
-use crate::scan::past_plain;
+use crate::scan::{past_ascii, past_plain};
 use crate::stop::Stop;
 use rt_value::Text;
+use simdutf8::compat::from_utf8;
 use std::alloc::Global;
+use std::simd::prelude::*;
 
 /// The bytes that are wanted within a character of several: the kind of the next, and how many more.
 type Wanted = Option<(Tail, u8)>;
@@ -62,6 +64,53 @@ fn utf8(bytes: &[u8], from: usize, to: usize) -> Result<&str, Stop>
         Ok(text) => Ok(text),
         Err(_) => Err(Stop::Bad(bytes.len() - from - broken(run))),
     }
+}
+
+/// What is known to be UTF-8 from a place on: all up to the other place, or nothing.
+fn known(bytes: &[u8], from: usize, to: usize) -> &str
+    requires order { from ≤ to }
+    requires within { to ≤ length bytes.now }
+    ensures { StandsAt result.now from bytes.now }
+{
+    match from_utf8(&bytes[from..to]) {
+        Ok(text) => text,
+        Err(_) => "",
+    }
+}
+
+/// A run of bytes that stand for themselves, as text: a part of what is known, or else tested.
+fn run<'a>(
+    bytes: &'a [u8],
+    known: &'a str,
+    from: usize,
+    at: usize,
+    to: usize,
+) -> Result<&'a str, Stop>
+    requires known { StandsAt known.now from bytes.now }
+    requires from { from ≤ at }
+    requires order { at ≤ to }
+    requires within { to ≤ length bytes.now }
+    requires run { drop to bytes.now ≡ past_plain (drop at bytes.now) }
+    ensures { Utf8Reads bytes.now at to result }
+{
+    match known.get(at - from..to - from) {
+        Some(text) => {
+            // Its clause says that a text is UTF-8.
+            let _bytes = text.as_bytes();
+            Ok(text)
+        }
+        None => utf8(bytes, at, to),
+    }
+}
+
+/// A run of ASCII bytes that stand for themselves, as text. Its bytes need no test: each is a character.
+fn ascii(bytes: &[u8], from: usize, to: usize) -> &str
+    requires order { from ≤ to }
+    requires within { to ≤ length bytes.now }
+    requires run { to ≡ from + prefix_len is_ascii_plain (drop from bytes.now) }
+    ensures { RunReads bytes.now from to result.now }
+{
+    unsafe { std::str::from_utf8_unchecked(&bytes[from..to]) }
 }
 
 fn digit(bytes: &[u8], at: usize) -> Result<u8, Stop>
@@ -189,31 +238,37 @@ fn escape(bytes: &[u8], at: usize) -> Result<(char, usize), Stop>
     }
 }
 
-/// At least as many bytes as the text from here on has, up to its quote.
+/// About how many bytes the text from here on has: up to a quote that stands behind no backslash. Where a text ends in an
+/// escaped backslash this is more, and never past the quote that opens the next one.
 fn room(bytes: &[u8], at: usize) -> usize
     requires { at ≤ length bytes.now }
+    ensures { at + result ≤ length bytes.now }
 {
     let mut to = at;
-    while to < bytes.len() && bytes[to] != b'"' {
-        let escaped = bytes[to] == b'\\';
-        to += 1;
-        if escaped && to < bytes.len() {
-            to += 1;
+    while bytes.len() - to > 16 {
+        let before = u8x16::from_slice(&bytes[to..]);
+        let here = u8x16::from_slice(&bytes[to + 1..]);
+        let quotes = here.simd_eq(u8x16::splat(b'"')) & before.simd_ne(u8x16::splat(b'\\'));
+        let found = quotes.to_bitmask();
+        if found != 0 {
+            return to + 1 + (found.trailing_zeros() as usize).min(15) - at;
         }
+        to += 16;
     }
-    to - at
+    bytes.len() - at
 }
 
-/// The rest of a text, and the place behind its quote.
-fn more(bytes: &[u8], at: usize, front: String) -> Result<(Text, usize), Stop>
-    requires { at ≤ length bytes.now }
+/// The rest of a text, and the place behind its quote. What is known begins where the rest does.
+fn more(bytes: &[u8], at: usize, front: String, known: &str) -> Result<(Text, usize), Stop>
+    requires within { at ≤ length bytes.now }
+    requires known { StandsAt known.now at bytes.now }
     ensures { MoreReads bytes.now at (string_bytes front) result }
 {
     let mut text = front;
     let mut to = at;
     loop {
         let next = past_plain(bytes, to);
-        let piece = utf8(bytes, to, next)?;
+        let piece = run(bytes, known, at, to, next)?;
         text.push_str(piece)?;
         if next == bytes.len() {
             return Err(Stop::Bad(0));
@@ -236,13 +291,15 @@ pub fn text(alloc: Global, bytes: &[u8], at: usize) -> Result<(Text, usize), Sto
     requires { at ≤ length bytes.now }
     ensures { TextReads bytes.now at result }
 {
-    let to = past_plain(bytes, at);
-    let front = utf8(bytes, at, to)?;
+    let to = past_ascii(bytes, at);
+    let front = ascii(bytes, at, to);
     if to < bytes.len() && bytes[to] == b'"' {
         let text = String::from_str(alloc, front)?;
         return Ok((Text::new(text), to + 1));
     }
-    let mut text = String::with_capacity(alloc, front.len().saturating_add(room(bytes, to)))?;
+    let room = room(bytes, to);
+    let known = known(bytes, to, to + room);
+    let mut text = String::with_capacity(alloc, front.len().saturating_add(room))?;
     text.push_str(front)?;
-    more(bytes, to, text)
+    more(bytes, to, text, known)
 }

@@ -1,13 +1,17 @@
-ghost use Rattle.std.specs.Prelude.{◌≡◌, ◌++◌, ◌∷◌, [], ◌<◌, flat_map, OnOk, IfOk};
+ghost use Rattle.std.specs.Prelude.{◌≡◌, ◌++◌, ◌∷◌, [], ◌<◌, flat_map, OnOk, IfOk, IsUtf8};
 ghost use Rattle.rt_json.specs.Written.{written, written_member, listed, quoted, written_byte, hex_digit, comma_before};
 ghost use Rattle.rt_json.specs.Fits.{FitsWithin};
 ghost use Rattle.rt_json.specs.Grammar.{IsJson, max_levels};
 ghost use Rattle.rt_json.specs.declared.tree.Json.{Json};
 
+use crate::scan::past_plain;
 use crate::tree::Json;
 use crate::tree::named::Member;
 use rt_value::Bytes;
 use std::alloc::{AllocError, Global};
+
+/// How many bytes are made room for at first.
+const FIRST_ROOM: usize = 512;
 
 fn hex_digit(value: u8) -> u8
     requires { value < 16 }
@@ -39,15 +43,22 @@ fn write_byte(out: &mut Vec<u8>, byte: u8) -> Result<(), AllocError>
     }
 }
 
+/// A text in quotes: runs of bytes that stand for themselves, and what stands for each byte between them.
 fn write_text(out: &mut Vec<u8>, text: &[u8]) -> Result<(), AllocError>
     ensures { OnOk result (out.new.items ≡ out.old.items ++ quoted text.now) }
 {
     out.push(b'"')?;
-    for byte in text {
-        write_byte(out, *byte)?;
+    let mut at = 0;
+    loop {
+        let next = past_plain(text, at);
+        out.extend_from_slice(&text[at..next])?;
+        if next == text.len() {
+            out.push(b'"')?;
+            return Ok(());
+        }
+        write_byte(out, text[next])?;
+        at = next + 1;
     }
-    out.push(b'"')?;
-    Ok(())
 }
 
 fn write_comma(out: &mut Vec<u8>, at: usize) -> Result<(), AllocError>
@@ -61,7 +72,8 @@ fn write_comma(out: &mut Vec<u8>, at: usize) -> Result<(), AllocError>
 
 #[cycle(write)]
 fn write_value(out: &mut Vec<u8>, tree: &Json) -> Result<(), AllocError>
-    ensures { OnOk result (out.new.items ≡ out.old.items ++ written tree.now) }
+    ensures spelling { OnOk result (out.new.items ≡ out.old.items ++ written tree.now) }
+    ensures utf8 { OnOk result (IsUtf8 out.old.items → IsUtf8 out.new.items) }
 {
     match tree {
         Json::Null => out.extend_from_slice(b"null"),
@@ -76,7 +88,8 @@ fn write_value(out: &mut Vec<u8>, tree: &Json) -> Result<(), AllocError>
 
 #[cycle(write)]
 fn write_items(out: &mut Vec<u8>, items: &[Json]) -> Result<(), AllocError>
-    ensures { OnOk result (out.new.items ≡ out.old.items ++ 91 ∷ listed written items.now ++ 93 ∷ []) }
+    ensures spelling { OnOk result (out.new.items ≡ out.old.items ++ 91 ∷ listed written items.now ++ 93 ∷ []) }
+    ensures utf8 { OnOk result (IsUtf8 out.old.items → IsUtf8 out.new.items) }
 {
     out.push(b'[')?;
     for (i, item) in items.iter().enumerate() {
@@ -89,7 +102,8 @@ fn write_items(out: &mut Vec<u8>, items: &[Json]) -> Result<(), AllocError>
 
 #[cycle(write)]
 fn write_members(out: &mut Vec<u8>, members: &[Member]) -> Result<(), AllocError>
-    ensures { OnOk result (out.new.items ≡ out.old.items ++ 123 ∷ listed written_member members.now ++ 125 ∷ []) }
+    ensures spelling { OnOk result (out.new.items ≡ out.old.items ++ 123 ∷ listed written_member members.now ++ 125 ∷ []) }
+    ensures utf8 { OnOk result (IsUtf8 out.old.items → IsUtf8 out.new.items) }
 {
     out.push(b'{')?;
     for (i, member) in members.iter().enumerate() {
@@ -102,20 +116,31 @@ fn write_members(out: &mut Vec<u8>, members: &[Member]) -> Result<(), AllocError
 
 #[cycle(write)]
 fn write_member(out: &mut Vec<u8>, member: &Member) -> Result<(), AllocError>
-    ensures { OnOk result (out.new.items ≡ out.old.items ++ written_member member.now) }
+    ensures spelling { OnOk result (out.new.items ≡ out.old.items ++ written_member member.now) }
+    ensures utf8 { OnOk result (IsUtf8 out.old.items → IsUtf8 out.new.items) }
 {
     write_text(out, member.name.get().as_bytes())?;
     out.push(b':')?;
     write_value(out, &member.value)
 }
 
-/// The one spelling of a tree: no blanks, the members in order, and no escape that isn't needed. Fails for want of
-/// memory alone.
-pub fn write(alloc: Global, tree: &Json) -> Result<Bytes, AllocError>
-    ensures { IfOk result (λ bytes. bytes ≡ written tree.now) }
+/// The one spelling of a tree behind the bytes that are given: no blanks, the members in order, and no escape that isn't
+/// needed. Fails for want of memory alone, and then the bytes are gone.
+pub fn write_behind(bytes: Vec<u8>, tree: &Json) -> Result<Vec<u8>, AllocError>
+    ensures spelling { IfOk result (λ all. all.items ≡ bytes.items ++ written tree.now) }
+    ensures utf8 { IfOk result (λ all. IsUtf8 bytes.items → IsUtf8 all.items) }
 {
-    let mut out = Vec::new(alloc);
+    let mut out = bytes;
     write_value(&mut out, tree)?;
+    Ok(out)
+}
+
+/// The one spelling of a tree, as `write_behind` gives it, alone. Fails for want of memory alone.
+pub fn write(alloc: Global, tree: &Json) -> Result<Bytes, AllocError>
+    ensures spelling { IfOk result (λ bytes. bytes ≡ written tree.now) }
+    ensures utf8 { IfOk result (λ bytes. IsUtf8 bytes) }
+{
+    let out = write_behind(Vec::with_capacity(alloc, FIRST_ROOM)?, tree)?;
     Ok(Bytes::new(out))
 }
 

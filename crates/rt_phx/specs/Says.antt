@@ -14,16 +14,17 @@ use Rattle.rt_phx.specs.Frame.{message, no_members}
 abbrev pub reply_to : Json → Message → Json → Message
 reply_to join_ref m payload = message join_ref m.reference m.topic (codes "phx_reply") payload
 
+abbrev pub reply_payload : List ℕ → Json → Json
+reply_payload status response = j.Object (field (codes "status") (Text status) ∷ field (codes "response") response ∷ [])
+
 abbrev pub reply_ok : Json → Message → Json → Message
-reply_ok join_ref m response =
-    reply_to join_ref m (j.Object (field (codes "status") (Text (codes "ok")) ∷ field (codes "response") response ∷ []))
+reply_ok join_ref m response = reply_to join_ref m (reply_payload (codes "ok") response)
 
 abbrev pub reason_of : List ℕ → Json
 reason_of reason = j.Object (field (codes "reason") (Text reason) ∷ [])
 
 abbrev pub reply_error : Json → Message → List ℕ → Message
-reply_error join_ref m reason =
-    reply_to join_ref m (j.Object (field (codes "status") (Text (codes "error")) ∷ field (codes "response") (reason_of reason) ∷ []))
+reply_error join_ref m reason = reply_to join_ref m (reply_payload (codes "error") (reason_of reason))
 
 -- on a channel, by its join_ref and topic
 abbrev pub said_on : Json → List ℕ → List ℕ → Json → Message

@@ -1,10 +1,20 @@
 //! Messages of the channel protocol in both versions of its frames (the Realtime protocol, "Messages").
 #![tactic(auto)]
 
+mod copying;
+mod decoding;
+mod encoding;
 mod end;
 mod fault;
 mod message;
+mod parts;
+pub mod saying;
+#[cfg(test)]
+mod tests;
+pub mod trees;
 
+pub use decoding::{decode, one_message};
+pub use encoding::{encode, encoded_again};
 pub use end::EndName;
 pub use fault::PhxFault;
 pub use message::{Message, Version};

@@ -1,8 +1,6 @@
 -- The claims of a token at a second, or the first reason why it has none (RFC 7515, "JWS Compact Serialization"; RFC 7519, "Validating a JWT").
-use Rattle.std.specs.Prelude.{ℕ, ◌==◌, Bool, true, false, not, List, [], ◌∷◌, ◌++◌, codes, Option, Some, None, unwrap_or, Result, Ok}
+use Rattle.std.specs.Prelude.{ℕ, Bool, not, List, ◌∷◌, ◌++◌, codes, Option, unwrap_or, Result, Ok}
 use Rattle.std.specs.Str.{bytes_eq}
-use Rattle.base64.specs.Engines.{url_safe_no_pad}
-use Rattle.base64.specs.GeneralPurpose.{decoded_of, encode_of}
 use Rattle.rt_value.specs.declared.claims.Claims.{Claims}
 use Rattle.rt_value.specs.Choice.{◌>>=◌, some_if, is_at}
 use Rattle.rt_json.specs.declared.tree.Json.{Json}
@@ -10,34 +8,17 @@ use Rattle.rt_json.specs.Lookup.{member_of}
 use Rattle.rt_json.specs.Machine.{tree_of}
 use Rattle.rt_token.specs.Hmac.{hmac_sha256}
 use Rattle.rt_json.specs.Trees.{text_of, is_object}
+use Rattle.rt_token.specs.Parts.{Parts, parts_of, bytes_of, part_of, signed_bytes}
 use Rattle.rt_token.specs.Claims.{◌>>◌, or_fault, ensure, exp_of, with_role, is_expired}
 use Rattle.rt_token.specs.declared.fault.TokenFault.{TokenFault}
 use Rattle.rt_token.specs.declared.fault.TokenFault.TheVariants.{Shape, Algorithm, Signature, Expired}
 
--- what stands between the dots
-abbrev pub pieces_from : List ℕ → List ℕ → List (List ℕ)
-pieces_from piece [] = piece ∷ []
-pieces_from piece (b ∷ bytes) = elim (b == 46) [ true ↦ piece ∷ pieces_from [] bytes | false ↦ pieces_from (piece ++ b ∷ []) bytes ]
-
--- a token's three parts, as they stand in it
-pub record Parts : Type 0 where
-  pub head : List ℕ
-  pub body : List ℕ
-  pub tag : List ℕ
-
-abbrev pub three : List (List ℕ) → Option Parts
-three (head ∷ body ∷ tag ∷ []) = Some (record { head = head; body = body; tag = tag })
-three _ = None
-
-abbrev pub parts_of : List ℕ → Option Parts
-parts_of token = three (pieces_from [] token)
-
--- the bytes of a part: base64url without padding, in its one form (RFC 4648, section 5)
-abbrev pub bytes_of : List ℕ → Option (List ℕ)
-bytes_of part = decoded_of url_safe_no_pad part
+-- the object that bytes spell
+abbrev pub object_of : List ℕ → Option Json
+object_of bytes = tree_of bytes >>= λ tree. some_if (is_object tree) tree
 
 abbrev pub object_in : List ℕ → Option Json
-object_in part = bytes_of part >>= λ bytes. tree_of bytes >>= λ tree. some_if (is_object tree) tree
+object_in part = bytes_of part >>= object_of
 
 -- a token whose parts have the right shape
 pub record Opened : Type 0 where
@@ -55,10 +36,6 @@ opened token =
     or_fault Shape (bytes_of parts.tag) >> λ tag.
     exp_of body >> λ exp.
     Ok (record { parts = parts; head = head; body = body; tag = tag; exp = exp })
-
--- what a tag signs: the first two parts with their dot
-abbrev pub signed_bytes : Parts → List ℕ
-signed_bytes p = p.head ++ 46 ∷ p.body
 
 abbrev pub is_hs256 : Json → Bool
 is_hs256 head = is_at (bytes_eq (codes "HS256")) (member_of head (codes "alg") >>= text_of)
@@ -79,11 +56,17 @@ claims_in_token secret token seconds =
 abbrev pub token_head : List ℕ
 token_head = codes "eyJhbGciOiJIUzI1NiIsInR5cCI6IkpXVCJ9"
 
-abbrev pub part_of : List ℕ → List ℕ
-part_of bytes = encode_of url_safe_no_pad bytes
-
 -- the token of the bytes of claims
 unfoldable pub signed_token : List ℕ → List ℕ → List ℕ
 signed_token secret claims =
     let signed = token_head ++ 46 ∷ part_of claims in
     signed ++ 46 ∷ part_of (hmac_sha256 secret signed)
+
+-- The claims that the bytes of a payload give at a second, or the first reason why they give none: the tests of a token that
+-- don't ask how it is signed.
+abbrev pub claims_in_payload : List ℕ → ℕ → Result Claims TokenFault
+claims_in_payload bytes seconds =
+    or_fault Shape (object_of bytes) >> λ body.
+    exp_of body >> λ exp.
+    ensure (not (is_expired seconds exp)) (Expired (unwrap_or exp 0)) >> λ _.
+    with_role body exp

@@ -1,5 +1,5 @@
 -- What the values of claims are.
-use Rattle.std.specs.Prelude.{ℕ, true, false, if◌then◌else◌, List, codes, Option, Some, None}
+use Rattle.std.specs.Prelude.{ℕ, if◌then◌else◌, List, codes, Option, Some, None}
 use Rattle.rt_json.specs.declared.tree.Json.{Json, Null, Bool as Truth, Num, Text}
 use Rattle.rt_json.specs.Written.{written}
 

@@ -1,4 +1,4 @@
-use Rattle.std.proofs.Common.{◌≡◌, ◌∙◌, Option, None, Some, subst, sym}
+use Rattle.std.proofs.Common.{◌≡◌, Option, None, Some, subst, sym}
 use Rattle.std.specs.Prelude.{MatchOption}
 use Rattle.rt_json.specs.declared.tree.Json.{Json}
 use Rattle.rt_json.proofs.Lookups.{member_is}

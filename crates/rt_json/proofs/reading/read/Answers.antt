@@ -1,4 +1,3 @@
-use Rattle.std.proofs.Common.{arith}
 use Rattle.rt_json.proofs.Faults.{tree_is, bad_is, deep_is, same_tree, computed_tree, computed_bad, computed_deep}
 use Rattle.rt_json.proofs.One.{bad_once, deep_once, not_both, bad_tree, deep_tree}
 use Rattle.rt_json.proofs.reading.read.Goals as goal

@@ -1,4 +1,4 @@
-use Rattle.std.proofs.Common.{arith, ap, sym, ◌∙◌, subst}
+use Rattle.std.proofs.Common.{sym, ◌∙◌}
 use Rattle.rt_json.proofs.Scalars.{number_at, number_ok, number_err}
 use Rattle.rt_json.proofs.scalar.number.Goals as goal
 

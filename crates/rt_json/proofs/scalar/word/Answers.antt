@@ -1,4 +1,4 @@
-use Rattle.std.proofs.Common.{◌<◌, ◌≡◌, length, get_or, arith, ap, sym, ◌∙◌}
+use Rattle.std.proofs.Common.{◌≡◌, length, get_or, arith, ap, sym, ◌∙◌}
 use Rattle.rt_json.specs.Words.{word_rest}
 use Rattle.rt_json.proofs.Scalars.{word_first, word_next, word_stops, word_ok}
 use Rattle.rt_json.proofs.scalar.word.Goals as goal

@@ -1,4 +1,3 @@
-use Rattle.std.proofs.Common.{◌≡◌, true}
 use Rattle.std.proofs.lemmas.Result.{err_from_is_err_and}
 use Rattle.rt_json.proofs.Units.{first_ok, first_digit_err, first_err}
 use Rattle.rt_json.proofs.text.first_digit.Goals as goal

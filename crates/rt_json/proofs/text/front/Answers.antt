@@ -1,4 +1,4 @@
-use Rattle.std.proofs.Common.{◌≡◌, ◌∙◌, refl, sym, arith}
+use Rattle.std.proofs.Common.{◌∙◌, refl, sym}
 use Rattle.std.proofs.lemmas.Result.{err_from_is_err_and}
 use Rattle.rt_json.proofs.Units.{front_ok, front_digit_err, front_err, bool_same, bool_other}
 use Rattle.rt_json.proofs.text.front.Goals as goal

@@ -1,6 +1,6 @@
-use Rattle.std.proofs.Common.{arith, sym, ◌∙◌}
+use Rattle.std.proofs.Common.{arith, ◌∙◌}
 use Rattle.std.specs.Prelude.{string_bytes}
-use Rattle.rt_json.proofs.Texts.{Leads, piece_leads, escape_leads, control_breaks, stops_here}
+use Rattle.rt_json.proofs.Texts.{piece_leads, escape_leads, control_breaks, stops_here}
 use Rattle.rt_json.proofs.text.more.Goals as goal
 
 pub loop-text-preserved : goal.loop-text-preserved

@@ -1,4 +1,4 @@
-use Rattle.std.proofs.Common.{◌≡◌, ◌∙◌, refl, sym, arith}
+use Rattle.std.proofs.Common.{arith}
 use Rattle.std.proofs.lemmas.Result.{err_from_is_err_and}
 use Rattle.rt_json.proofs.Units.{unit_third_err, unit_fourth_err, unit_ok}
 use Rattle.rt_json.proofs.text.unit.Goals as goal

@@ -1,4 +1,3 @@
-use Rattle.std.proofs.Common.{arith}
 use Rattle.std.proofs.lemmas.Result.{err_from_is_err_and}
 use Rattle.rt_json.proofs.Chars.{char_err, char_one, char_pair, high_from, no_scalar}
 use Rattle.rt_json.proofs.text.unit_char.Goals as goal

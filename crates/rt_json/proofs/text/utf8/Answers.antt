@@ -1,18 +1,11 @@
-use Rattle.std.proofs.Common.{◌≡◌, ◌≤◌, ℕ, ◌-◌, List, ◌++◌, true, refl, ap, subst, sym, ◌∙◌, arith, take, drop, length, length-append, length-drop}
-use Rattle.std.specs.List.{list_all}
+use Rattle.std.proofs.Common.{◌≡◌, ℕ, ◌-◌, List, ◌++◌, ap, sym, ◌∙◌, take, drop, length, length-drop}
 use Rattle.rt_json.specs.Machine as m
 use Rattle.rt_json.specs.Machine.{bad}
-use Rattle.rt_json.specs.Reads.{is_plain, past_plain, at_text}
-use Rattle.rt_json.proofs.Runs.{plain_run, plain_stops, run_outcome}
-use Rattle.rt_json.proofs.Steps.{slice_rest, slice_is}
+use Rattle.rt_json.specs.Reads.{past_plain, at_text}
+use Rattle.rt_json.proofs.Prefixes.{plain_slice}
+use Rattle.rt_json.proofs.Runs.{plain_stops, run_outcome}
+use Rattle.rt_json.proofs.Steps.{slice_rest}
 use Rattle.rt_json.proofs.text.utf8.Goals as goal
-
--- the run is plain
-plain_slice : (bytes : List ℕ) (from to : ℕ) → from ≤ to → to ≤ length bytes → drop to bytes ≡ past_plain (drop from bytes) → list_all is_plain (take (to - from) (drop from bytes)) ≡ true
-plain_slice bytes from to order within e =
-    let r = plain_run (drop from bytes) in
-    let is = slice_is bytes r.run from to order within (r.parts ∙ ap (λ (xs : List ℕ). r.run ++ xs) (sym e)) in
-    ap (list_all is_plain) (sym is) ∙ r.plain
 
 pub broken-requires-clause-plain : goal.broken-requires-clause-plain
 broken-requires-clause-plain c = plain_slice c.args.bytes.now c.args.from c.args.to c.requires.order c.requires.within c.requires.run

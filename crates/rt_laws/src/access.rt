@@ -1,0 +1,21 @@
+ghost use Rattle.rt_catalog.specs.declared.catalog.Catalog.{Catalog as CatalogData};
+ghost use Rattle.rt_entry.specs.declared.input.Settings.{Settings as SettingsData};
+ghost use Rattle.rt_entry.specs.Access.{ChangesAreAllowed};
+ghost use Rattle.rt_laws.specs.Changes.{GivenIsAllowed, VerdictsAreOne};
+
+/// Every message of a poll was due by one of its changes and by subscriptions of the slot that it was sent to, and shows values only where each of
+/// them is delivered, and only of columns that their role may SELECT.
+pub fn changes_are_allowed()
+    ensures { (c : CatalogData) (s : SettingsData) → ChangesAreAllowed c s }
+{}
+
+/// The ids of one message have all the same verdict: deliver, or one of the two errors.
+pub fn verdicts_are_one()
+    ensures { (c : CatalogData) (s : SettingsData) → VerdictsAreOne c s }
+{}
+
+/// After any list of steps, every message that a slot was given is the answer of an input of the journal, as it is spelled; and a message of changes
+/// is one of a poll, due by it and one of its changes.
+pub fn given_is_allowed()
+    ensures { (c : CatalogData) (s : SettingsData) → GivenIsAllowed c s }
+{}

@@ -1,0 +1,16 @@
+//! Laws of the journal and of the machine of steps. Each is the contract of a function with an empty body.
+#![tactic(auto)]
+
+mod access;
+mod lanes;
+mod presence;
+mod serving;
+mod steps;
+mod stories;
+
+pub use access::{changes_are_allowed, given_is_allowed, verdicts_are_one};
+pub use lanes::{entries_give, lanes_fan_out, marks_stay};
+pub use presence::{clients_follow, departures_are_told, states_are_read};
+pub use serving::{serves_all, uncut_is_due};
+pub use steps::{cuts_are_own, others_are_untouched, push_keeps_the_rest};
+pub use stories::{members_are_apart, story_grows, tracks_are_apart};

@@ -1,0 +1,7 @@
+use Rattle.rt_phx.proofs.Spelling.{list_out}
+use Rattle.rt_phx.proofs.encoding.encode_list.Goals as goal
+
+pub returns : goal.returns
+returns c =
+    list_out c.args.message.now _ _ _ _ _ _ _ c.new-out.ensures.items c.in_ok-put_tree.ensures c.in_ok-put_tree-2.ensures c.in_ok-put_text.ensures c.in_ok-put_text-2.ensures
+    c.in_ok-put_tree-3.ensures c.in_ok-push.ensures.items

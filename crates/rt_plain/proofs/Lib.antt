@@ -1,0 +1,5 @@
+mod Calm
+mod Free
+mod Idle
+mod Same
+mod Taken

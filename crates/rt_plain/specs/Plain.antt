@@ -1,0 +1,74 @@
+-- The plain schedule: each input of a script is taken at once, and then all is done that can be done.
+use Rattle.std.specs.Prelude.{◌≡◌, ℕ, ◌<◌, false, List, [], ◌∷◌, reverse, Option, Some, None, ⊤}
+use Rattle.std.specs.List.{filter_map}
+use Rattle.rt_catalog.specs.declared.catalog.Catalog.{Catalog}
+use Rattle.rt_entry.specs.declared.input.Input.{Input}
+use Rattle.rt_entry.specs.declared.input.Input.TheVariants.{Poll, Tick, Stop}
+use Rattle.rt_entry.specs.declared.input.Settings.{Settings}
+use Rattle.rt_entry.specs.declared.input.Step.TheVariants.{Arrive, Feed}
+use Rattle.rt_entry.specs.Story.{slot_count}
+use Rattle.rt_entry.specs.Answers.{due}
+use Rattle.rt_entry.specs.Machine.{World}
+use Rattle.rt_entry.specs.Headline.{MayArrive}
+use Rattle.rt_script.specs.declared.script.Act.{Act}
+use Rattle.rt_script.specs.declared.script.Act.TheVariants.{One}
+use Rattle.rt_script.specs.declared.script.Line.{Line}
+use Rattle.rt_script.specs.declared.script.Script.{Script}
+use Rattle.rt_script.specs.Running.{ends, IsRun}
+
+-- an input of a slot, or one of the feed or the clock
+abbrev pub IsFed : Input → Type 0
+IsFed (Poll changes) = ⊤
+IsFed (Tick moment) = ⊤
+IsFed Stop = ⊤
+IsFed _ = ⊥
+
+abbrev pub IsInput : Act → Type 0
+IsInput (One (Arrive i)) = MayArrive i
+IsInput (One (Feed i)) = IsFed i
+IsInput _ = ⊥
+
+abbrev pub AreInputs : List Line → Type 0
+AreInputs [] = ⊤
+AreInputs (l ∷ more) = IsInput l.step × AreInputs more
+
+abbrev pub input_of : Act → Option Input
+input_of (One (Arrive i)) = Some i
+input_of (One (Feed i)) = Some i
+input_of _ = None
+
+-- the inputs of a script, in order
+abbrev pub inputs_of : List Line → List Input
+inputs_of lines = filter_map (λ l. input_of l.step) lines
+
+-- a script in the plain schedule, whose lines are inputs
+pub record IsPlain (script : Script) : Type 0 where
+  pub plain : script.manual ≡ false
+  pub lines : AreInputs script.steps
+  pub workers : 0 < script.settings.workers
+  pub capacity : 0 < script.settings.capacity
+  pub lane : 0 < script.settings.lane
+  pub inlet : 0 < script.settings.inlet
+
+-- nothing was cut, and each slot was given all that is due to it by the inputs in their order
+pub record GivesAll (c : Catalog) (script : Script) (w : World) : Type 0 where
+  pub journal : w.journal ≡ reverse (inputs_of script.steps)
+  pub cuts : (slot : ℕ) → slot < slot_count → (w.slots slot).cuts ≡ []
+  pub given : (slot : ℕ) → slot < slot_count → (w.slots slot).given ≡ due c script.settings (reverse (inputs_of script.steps)) slot
+
+abbrev pub PlainGivesAll : Type 0
+PlainGivesAll = (c : Catalog) (script : Script) (w : World) → IsPlain script → IsRun c script (ends w) → GivesAll c script w
+
+-- what is due asks neither how many workers there are nor what outboxes, lanes and inlets hold
+abbrev pub DueIsFree : Type 0
+DueIsFree =
+    (c : Catalog) (s t : Settings) (journal : List Input) (slot : ℕ)
+    → s.secret ≡ t.secret → s.max_record ≡ t.max_record → due c s journal slot ≡ due c t journal slot
+
+-- so two runs of one script, with whatever workers, give each slot the same items in the same order
+abbrev pub WorkersAreFree : Type 0
+WorkersAreFree =
+    (c : Catalog) (one two : Script) (v w : World)
+    → IsPlain one → IsPlain two → one.steps ≡ two.steps → one.settings.secret ≡ two.settings.secret → one.settings.max_record ≡ two.settings.max_record
+    → IsRun c one (ends v) → IsRun c two (ends w)
+    → (slot : ℕ) → slot < slot_count → (v.slots slot).given ≡ (w.slots slot).given

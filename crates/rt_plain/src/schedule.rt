@@ -1,0 +1,16 @@
+ghost use Rattle.rt_plain.specs.Plain.{DueIsFree, PlainGivesAll, WorkersAreFree};
+
+/// A run of a script in the plain schedule takes the inputs in their order, cuts no slot, and gives each slot all that is due to it.
+pub fn plain_gives_all()
+    ensures { PlainGivesAll }
+{}
+
+/// What is due depends on the settings by the secret and the size of a record alone.
+pub fn due_is_free()
+    ensures { DueIsFree }
+{}
+
+/// For any number of workers a script's plain schedule gives each slot the same items in the same order.
+pub fn workers_are_free()
+    ensures { WorkersAreFree }
+{}
