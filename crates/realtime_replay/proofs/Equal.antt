@@ -1,20 +1,19 @@
 -- Trees of one variant are equal where what they hold is, and so are members of one name.
-use Rattle.std.proofs.Common.{◌≡◌, ◌≢◌, ℕ, List, [], ◌∷◌, length, get_or, refl, ap, sym, ◌∙◌, Bool, true, false, ◌==◌, arith}
+use Rattle.std.proofs.Common.{◌≡◌, ℕ, List, [], ◌∷◌, length, get_or, refl, ap, sym, ◌∙◌, Bool, true, false, ◌==◌, arith}
 use Rattle.rt_json.specs.declared.tree.Json.{Json, out-Json}
 use Rattle.rt_json.specs.declared.tree.Json.TheOpen.{Json-F}
 use Rattle.rt_json.specs.declared.tree.Json.TheVariants as j
 use Rattle.rt_json.specs.declared.tree.Json.TheVariants.{outs-Object, outs-List}
 use Rattle.rt_json.specs.declared.tree.named.Member.{Member}
-use Rattle.std.proofs.Common.{◌++◌, codes, Err}
-use Rattle.std.proofs.Common.{Option, Some, subst}
+use Rattle.std.proofs.Common.{codes, Err}
+use Rattle.std.proofs.Common.{Some, subst}
 use Rattle.std.proofs.lemmas.Bool.{eqb-true}
-use Rattle.std.proofs.lemmas.List.{append_cancel_left}
 use Rattle.rt_json.specs.Answers.{IsTree}
 use Rattle.rt_json.specs.declared.fault.JsonFault.{JsonFault}
 use Rattle.rt_json.specs.declared.fault.JsonFault.TheVariants as json
 use Rattle.realtime_replay.specs.Trees.{named}
 use Rattle.realtime_replay.specs.Faults.{of_json}
-use Rattle.realtime_replay.specs.Script.{frame_tree, insert_tree, join_tree, IsField, IsFields, IsInsertTree, IsRow, IsRowLine, AreSaid}
+use Rattle.realtime_replay.specs.Script.{frame_tree, insert_tree, IsField, IsInsertTree, IsRow, IsRowLine, AreSaid}
 use Rattle.realtime_replay.specs.declared.fault.FormFault.TheVariants as form
 use Rattle.realtime_replay.specs.declared.catalogue.Catalogue.{Catalogue}
 use Rattle.realtime_replay.specs.declared.catalogue.Column.{Column}

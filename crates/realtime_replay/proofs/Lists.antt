@@ -1,7 +1,7 @@
 -- Lists cut at a byte, and lists compared one element at a time.
-use Rattle.std.proofs.Common.{codes, ◌*◌, ◌^◌, Option, Some, None, length-append, ◌≡◌, ◌≢◌, ℕ, zero, suc, ◌+◌, ◌<◌, ◌≤◌, List, [], ◌∷◌, ◌++◌, length, take, get_or, map, Bor, refl, ap, sym, arith, add-one, ◌∙◌, subst}
+use Rattle.std.proofs.Common.{codes, ◌^◌, Option, Some, None, length-append, ◌≡◌, ◌≢◌, ℕ, zero, suc, ◌+◌, ◌<◌, List, [], ◌∷◌, ◌++◌, length, Bor, refl, ap, sym, arith, ◌∙◌}
 use Rattle.realtime_replay.specs.Script.{Lacks, AreLines, AreParts, slot_line}
-use Rattle.std.specs.Prelude.{slice_index, MatchOption, ◌%◌, ◌==◌, not, Bool, true, false, IsTrue, ◌↔◌}
+use Rattle.std.specs.Prelude.{slice_index, MatchOption, ◌%◌, not, Bool, true, false, IsTrue, ◌↔◌}
 use Rattle.std.specs.Fmt.{decimal}
 use Rattle.std.specs.Str.{bytes_eq}
 use Rattle.std.proofs.lemmas.Slice.Eq.{bytes_eq-Decides}

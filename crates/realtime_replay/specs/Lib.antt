@@ -5,5 +5,6 @@ pub mod Messages
 pub mod Output
 pub mod Printed
 pub mod Script
+pub mod Statements
 pub mod Trees
 pub mod Words

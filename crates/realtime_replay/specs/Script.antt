@@ -6,7 +6,6 @@ use Rattle.std.specs.List.{list_all}
 use Rattle.rt_json.specs.Grammar.{IsJson}
 use Rattle.rt_json.specs.declared.tree.Json.{Json, Num, Text}
 use Rattle.rt_json.specs.declared.tree.Json.TheVariants as j
-use Rattle.rt_json.specs.declared.tree.named.Member.{Member}
 use Rattle.realtime_replay.specs.Trees.{named}
 use Rattle.realtime_replay.specs.Messages.{wanted_binding}
 use Rattle.realtime_replay.specs.declared.catalogue.ColumnType.{ColumnType}

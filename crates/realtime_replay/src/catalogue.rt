@@ -1,6 +1,11 @@
-use crate::cursor::Cursor;
+ghost use Rattle.std.specs.Prelude.{◌≡◌, ◌∷◌, [], ℕ, List, IfOk, MatchResult};
+ghost use Rattle.realtime_replay.specs.Statements as spec;
+ghost use Rattle.realtime_replay.specs.Statements.{AreStatements, IsCatalogue};
+ghost use Rattle.realtime_replay.specs.declared.catalogue.Catalogue as c;
+
 use crate::fault::FormFault;
 use crate::lexing::words_of;
+use crate::statements::names_in;
 use rt_value::{List, Text};
 use std::alloc::{AllocError, Global};
 
@@ -33,138 +38,80 @@ pub struct Catalogue {
     pub role: Text,
 }
 
-/// A column as its statement writes it.
-#[derive(Clone, Copy)]
-struct ColumnWords<'a> {
-    name: &'a str,
-    column_type: ColumnType,
-    is_key: bool,
+fn key_place(second_is_key: bool) -> usize
+    ensures { result ≡ spec.key_place second_is_key }
+{
+    if second_is_key { 1 } else { 0 }
 }
 
-/// The statements as they are written.
-#[derive(Clone, Copy)]
-struct Statements<'a> {
-    table: &'a str,
-    columns: [ColumnWords<'a>; 2],
-    role: &'a str,
-}
-
-fn column_type_of(word: &str) -> Option<ColumnType> {
-    match word {
-        "int4" => Some(ColumnType::Int4),
-        "text" => Some(ColumnType::Text),
-        _ => None,
-    }
-}
-
-fn column_words<'a>(cursor: &mut Cursor<'a>) -> Option<ColumnWords<'a>> {
-    let name = cursor.name()?;
-    let column_type = column_type_of(cursor.word()?)?;
-    let is_key = cursor.skip("primary");
-    if is_key {
-        cursor.expect("key")?;
-    }
-    Some(ColumnWords {
-        name,
-        column_type,
-        is_key,
-    })
-}
-
-/// `create table NAME (NAME TYPE, NAME TYPE);`
-fn table_words<'a>(cursor: &mut Cursor<'a>) -> Option<(&'a str, [ColumnWords<'a>; 2])> {
-    cursor.expect("create")?;
-    cursor.expect("table")?;
-    let table = cursor.name()?;
-    cursor.expect("(")?;
-    let first = column_words(cursor)?;
-    cursor.expect(",")?;
-    let second = column_words(cursor)?;
-    cursor.expect(")")?;
-    cursor.expect(";")?;
-    Some((table, [first, second]))
-}
-
-/// `create role NAME;`
-fn role_word<'a>(cursor: &mut Cursor<'a>) -> Option<&'a str> {
-    cursor.expect("create")?;
-    cursor.expect("role")?;
-    let role = cursor.name()?;
-    cursor.expect(";")?;
-    Some(role)
-}
-
-/// `grant select on TABLE to ROLE;`
-fn take_grant(cursor: &mut Cursor<'_>, table: &str, role: &str) -> Option<()> {
-    cursor.expect("grant")?;
-    cursor.expect("select")?;
-    cursor.expect("on")?;
-    cursor.expect(table)?;
-    cursor.expect("to")?;
-    cursor.expect(role)?;
-    cursor.expect(";")
-}
-
-fn statements_in<'a>(words: &'a [Text]) -> Option<Statements<'a>> {
-    let mut cursor = Cursor::new(words);
-    let (table, columns) = table_words(&mut cursor)?;
-    let role = role_word(&mut cursor)?;
-    take_grant(&mut cursor, table, role)?;
-    if cursor.is_at_end() && role != "public" {
-        Some(Statements {
-            table,
-            columns,
-            role,
-        })
-    } else {
-        None
-    }
-}
-
-fn text_in(alloc: Global, word: &str) -> Result<Text, AllocError> {
-    Ok(Text::new(String::from_str(alloc, word)?))
-}
-
-fn column_in(alloc: Global, words: &ColumnWords<'_>) -> Result<Column, AllocError> {
+fn column_in(alloc: Global, name: &Text, column_type: ColumnType) -> Result<Column, AllocError>
+    ensures name { IfOk result (λ column. column.name ≡ name.now) }
+    ensures column_type { IfOk result (λ column. column.column_type ≡ column_type) }
+{
     Ok(Column {
-        name: text_in(alloc, words.name)?,
-        column_type: words.column_type,
+        name: name.copy(alloc)?,
+        column_type,
     })
+}
+
+fn columns_in(alloc: Global, first: Column, second: Column) -> Result<List<Column>, AllocError>
+    ensures { IfOk result (λ columns. columns ≡ first ∷ second ∷ []) }
+{
+    let mut columns = Vec::new(alloc);
+    columns.push(first)?;
+    columns.push(second)?;
+    Ok(List::new(columns))
 }
 
 fn catalogue_in(
     alloc: Global,
-    statements: &Statements<'_>,
+    table: &Text,
+    columns: List<Column>,
     key: usize,
-) -> Result<Catalogue, AllocError> {
-    let mut columns = Vec::new(alloc);
-    for words in &statements.columns {
-        columns.push(column_in(alloc, words)?)?;
-    }
+    role: &Text,
+) -> Result<Catalogue, AllocError>
+    ensures table { IfOk result (λ catalogue. catalogue.table.name ≡ table.now) }
+    ensures columns { IfOk result (λ catalogue. catalogue.table.columns ≡ columns) }
+    ensures key { IfOk result (λ catalogue. catalogue.table.key ≡ key) }
+    ensures role { IfOk result (λ catalogue. catalogue.role ≡ role.now) }
+{
+    let name = table.copy(alloc)?;
+    let role = role.copy(alloc)?;
     Ok(Catalogue {
-        table: Table {
-            name: text_in(alloc, statements.table)?,
-            columns: List::new(columns),
-            key,
-        },
-        role: text_in(alloc, statements.role)?,
+        table: Table { name, columns, key },
+        role,
     })
+}
+
+/// The catalogue that the words are.
+fn catalogue_of(alloc: Global, words: &[Text]) -> Result<Catalogue, FormFault>
+    ensures found { IfOk result (λ catalogue. AreStatements words.now catalogue) }
+    ensures only { (catalogue : c.Catalogue) → AreStatements words.now catalogue
+        → MatchResult result (λ found. found ≡ catalogue) (λ fault. fault ≡ FormFault.NoMemory) }
+{
+    match names_in(words) {
+        Some((table, first, first_type, second, second_type, is_key, role)) => {
+            let first = column_in(alloc, first, first_type)?;
+            let second = column_in(alloc, second, second_type)?;
+            let columns = columns_in(alloc, first, second)?;
+            let catalogue = catalogue_in(alloc, table, columns, key_place(is_key), role)?;
+            Ok(catalogue)
+        }
+        None => Err(FormFault::NotBuilt),
+    }
 }
 
 /// The catalogue that a text is. `NotBuilt` where it isn't three statements of the built form: a table of two columns
 /// with one key column, a role, and the grant to it.
-pub fn read_catalogue(alloc: Global, bytes: &[u8]) -> Result<Catalogue, FormFault> {
+pub fn read_catalogue(alloc: Global, bytes: &[u8]) -> Result<Catalogue, FormFault>
+    ensures found { IfOk result (λ catalogue. IsCatalogue bytes.now catalogue) }
+    ensures only { (catalogue : c.Catalogue) → IsCatalogue bytes.now catalogue
+        → MatchResult result (λ found. found ≡ catalogue) (λ fault. fault ≡ FormFault.NoMemory) }
+{
     let Ok(text) = std::str::from_utf8(bytes) else {
         return Err(FormFault::NotBuilt);
     };
     let words = words_of(alloc, text)?;
-    let Some(statements) = statements_in(words.as_slice()) else {
-        return Err(FormFault::NotBuilt);
-    };
-    let [first, second] = &statements.columns;
-    if first.name == second.name || first.is_key == second.is_key {
-        return Err(FormFault::NotBuilt);
-    }
-    let key = usize::from(second.is_key);
-    Ok(catalogue_in(alloc, &statements, key)?)
+    let catalogue = catalogue_of(alloc, words.as_slice())?;
+    Ok(catalogue)
 }

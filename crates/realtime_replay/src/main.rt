@@ -2,7 +2,6 @@
 #![tactic(auto)]
 
 mod catalogue;
-mod cursor;
 mod fault;
 mod insert;
 mod join;
@@ -14,6 +13,7 @@ mod printing;
 mod replaying;
 mod script;
 mod shapes;
+mod statements;
 mod status;
 #[cfg(test)]
 mod tests;

@@ -1,4 +1,3 @@
-use Rattle.std.proofs.Common.{◌≡◌, ◌++◌, ◌∷◌, [], List, ℕ, length, ◌==◌, codes, sym, ap, refl, ◌∙◌, true, false, subst, arith}
 use Rattle.realtime_replay.proofs.Equal.{first_twice, members_twice, not_empty}
 use Rattle.realtime_replay.proofs.insert.insert_parts.Goals as goal
 

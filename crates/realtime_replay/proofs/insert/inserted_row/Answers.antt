@@ -1,4 +1,4 @@
-use Rattle.std.proofs.Common.{◌≡◌, ◌++◌, ◌∷◌, [], List, ℕ, length, ◌==◌, codes, sym, ap, refl, ◌∙◌, true, false, subst, arith}
+use Rattle.std.proofs.Common.{sym, ◌∙◌}
 use Rattle.realtime_replay.proofs.Equal.{row_line_same, same_some, two_heads}
 use Rattle.realtime_replay.proofs.insert.inserted_row.Goals as goal
 

@@ -1,7 +1,3 @@
-use Rattle.std.proofs.Common.{◌≡◌, ◌++◌, ◌∷◌, [], List, ℕ, length, ◌==◌, codes, sym, ap, refl, ◌∙◌, true, false, subst, arith}
-use Rattle.rt_json.specs.declared.tree.Json.{Json}
-use Rattle.rt_json.specs.declared.tree.Json.TheVariants as j
-use Rattle.realtime_replay.specs.Trees.{named}
 use Rattle.realtime_replay.proofs.Equal.{items_twice, one_head}
 use Rattle.realtime_replay.proofs.insert.key_name.Goals as goal
 

@@ -1,7 +1,5 @@
-use Rattle.std.proofs.Common.{◌≡◌, ◌++◌, ◌∷◌, [], List, ℕ, length, ◌==◌, codes, sym, ap, refl, ◌∙◌, true, false, subst, arith}
+use Rattle.std.proofs.Common.{sym, ◌∙◌, subst}
 use Rattle.rt_json.specs.declared.tree.Json.{Json}
-use Rattle.rt_json.specs.declared.tree.Json.TheVariants as j
-use Rattle.realtime_replay.specs.Trees.{named}
 use Rattle.realtime_replay.specs.Script.{IsFields, IsKey}
 use Rattle.realtime_replay.proofs.Equal.{insert_twice, untrue}
 use Rattle.realtime_replay.proofs.insert.row_in.Goals as goal

@@ -1,7 +1,5 @@
-use Rattle.std.proofs.Common.{◌≡◌, ◌++◌, ◌∷◌, [], List, ℕ, length, ◌==◌, codes, sym, ap, refl, ◌∙◌, true, false, subst, arith}
+use Rattle.std.proofs.Common.{sym, subst}
 use Rattle.rt_json.specs.declared.tree.Json.{Json}
-use Rattle.rt_json.specs.declared.tree.Json.TheVariants as j
-use Rattle.realtime_replay.specs.Trees.{named}
 use Rattle.realtime_replay.specs.Script.{IsField}
 use Rattle.realtime_replay.proofs.Equal.{items_twice, two_heads}
 use Rattle.realtime_replay.proofs.insert.values_in.Goals as goal

@@ -1,7 +1,5 @@
-use Rattle.std.proofs.Common.{◌≡◌, ◌++◌, ◌∷◌, [], List, ℕ, length, ◌==◌, codes, sym, ap, refl, ◌∙◌, true, false, subst, arith}
-use Rattle.rt_json.specs.declared.tree.Json.{Json}
+use Rattle.std.proofs.Common.{◌++◌, length, ◌==◌, ap, ◌∙◌}
 use Rattle.rt_json.specs.declared.tree.Json.TheVariants as j
-use Rattle.realtime_replay.specs.Trees.{named}
 use Rattle.realtime_replay.specs.Messages.{wanted_binding}
 use Rattle.realtime_replay.proofs.Equal.{behind_three, empty_of, members_twice}
 use Rattle.realtime_replay.proofs.join.is_binding.Goals as goal

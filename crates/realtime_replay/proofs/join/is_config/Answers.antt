@@ -1,6 +1,4 @@
-use Rattle.std.proofs.Common.{◌≡◌, ◌++◌, ◌∷◌, [], sym, ap, refl, ◌∙◌, true, false}
-use Rattle.rt_json.specs.declared.tree.Json.TheVariants as j
-use Rattle.realtime_replay.specs.Trees.{named}
+use Rattle.std.proofs.Common.{sym, ◌∙◌}
 use Rattle.realtime_replay.proofs.Equal.{two_twice, two_equal, untrue}
 use Rattle.realtime_replay.proofs.join.is_config.Goals as goal
 

@@ -1,6 +1,5 @@
-use Rattle.std.proofs.Common.{◌≡◌, ◌++◌, ◌∷◌, [], sym, ap, refl, ◌∙◌, true, false}
+use Rattle.std.proofs.Common.{◌∷◌, [], ap, ◌∙◌}
 use Rattle.rt_json.specs.declared.tree.Json.TheVariants as j
-use Rattle.realtime_replay.specs.Trees.{named}
 use Rattle.realtime_replay.proofs.Equal.{items_twice, one_head}
 use Rattle.realtime_replay.proofs.join.is_one_binding.Goals as goal
 

@@ -1,4 +1,4 @@
-use Rattle.std.proofs.Common.{◌≡◌, ◌++◌, ◌∷◌, [], sym, ap, refl, ◌∙◌, true, false}
+use Rattle.std.proofs.Common.{◌∷◌, [], ap, ◌∙◌}
 use Rattle.rt_json.specs.declared.tree.Json.TheVariants as j
 use Rattle.realtime_replay.specs.Trees.{named}
 use Rattle.realtime_replay.proofs.Equal.{first_twice, members_twice}

@@ -1,7 +1,5 @@
-use Rattle.std.proofs.Common.{◌≡◌, ◌++◌, ◌∷◌, [], List, ℕ, length, ◌==◌, codes, sym, ap, refl, ◌∙◌, true, false, subst, arith}
+use Rattle.std.proofs.Common.{sym, subst}
 use Rattle.rt_json.specs.declared.tree.Json.{Json}
-use Rattle.rt_json.specs.declared.tree.Json.TheVariants as j
-use Rattle.realtime_replay.specs.Trees.{named}
 use Rattle.std.proofs.lemmas.Result.{err_from_is_err_and}
 use Rattle.realtime_replay.specs.Script.{IsJoinTree}
 use Rattle.realtime_replay.proofs.join.join_of.Goals as goal

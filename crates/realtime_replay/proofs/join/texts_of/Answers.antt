@@ -1,7 +1,4 @@
-use Rattle.std.proofs.Common.{◌≡◌, ◌++◌, ◌∷◌, [], List, ℕ, length, ◌==◌, codes, sym, ap, refl, ◌∙◌, true, false, subst, arith}
-use Rattle.rt_json.specs.declared.tree.Json.{Json}
-use Rattle.rt_json.specs.declared.tree.Json.TheVariants as j
-use Rattle.realtime_replay.specs.Trees.{named}
+use Rattle.std.proofs.Common.{sym, ◌∙◌}
 use Rattle.realtime_replay.proofs.Equal.{frame_twice, untrue}
 use Rattle.realtime_replay.proofs.join.texts_of.Goals as goal
 

@@ -1,4 +1,4 @@
-use Rattle.std.proofs.Common.{◌≡◌, ◌++◌, ◌∷◌, [], List, ℕ, length, ◌==◌, codes, sym, ap, refl, ◌∙◌, true, false, subst, arith}
+use Rattle.std.proofs.Common.{List, ℕ, sym, ◌∙◌, subst}
 use Rattle.rt_json.specs.Grammar.{IsJson}
 use Rattle.realtime_replay.proofs.Equal.{json_fault}
 use Rattle.realtime_replay.proofs.join.tree_of.Goals as goal

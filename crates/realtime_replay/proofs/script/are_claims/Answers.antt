@@ -1,4 +1,4 @@
-use Rattle.std.proofs.Common.{◌≡◌, sym, ◌∙◌}
+use Rattle.std.proofs.Common.{sym, ◌∙◌}
 use Rattle.std.proofs.lemmas.Result.{err_from_is_err_and}
 use Rattle.realtime_replay.proofs.Equal.{untrue}
 use Rattle.realtime_replay.proofs.script.are_claims.Goals as goal

@@ -1,4 +1,3 @@
-use Rattle.std.proofs.Common.{◌≡◌, ◌++◌, ◌∷◌, sym, ◌∙◌, arith}
 use Rattle.realtime_replay.proofs.Equal.{not_empty}
 use Rattle.realtime_replay.proofs.Lists.{off}
 use Rattle.realtime_replay.proofs.script.lines_of.Goals as goal

@@ -1,4 +1,4 @@
-use Rattle.std.proofs.Common.{◌≡◌, ◌++◌, sym, ◌∙◌, arith, codes}
+use Rattle.std.proofs.Common.{◌++◌, sym, ◌∙◌, arith, codes}
 use Rattle.realtime_replay.proofs.Lists.{same_lines, same_slot, unequal_texts}
 use Rattle.realtime_replay.proofs.script.parts_of.Goals as goal
 

@@ -1,4 +1,4 @@
-use Rattle.std.proofs.Common.{◌≡◌, ◌++◌, ◌∷◌, [], List, ℕ, length, ◌==◌, codes, sym, ap, refl, ◌∙◌, true, false, subst, arith}
+use Rattle.std.proofs.Common.{length, ap}
 use Rattle.realtime_replay.proofs.Equal.{items_twice}
 use Rattle.realtime_replay.proofs.shapes.only_element.Goals as goal
 

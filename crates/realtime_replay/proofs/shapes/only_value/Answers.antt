@@ -1,4 +1,4 @@
-use Rattle.std.proofs.Common.{◌≡◌, ◌++◌, ◌∷◌, [], sym, ap, refl, ◌∙◌, true, false}
+use Rattle.std.proofs.Common.{[]}
 use Rattle.realtime_replay.proofs.Equal.{first_twice, members_twice, not_empty}
 use Rattle.realtime_replay.proofs.shapes.only_value.Goals as goal
 

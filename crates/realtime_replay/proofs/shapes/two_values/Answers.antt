@@ -1,4 +1,3 @@
-use Rattle.std.proofs.Common.{◌≡◌, ◌++◌, ◌∷◌, [], sym, ap, refl, ◌∙◌, true, false}
 use Rattle.realtime_replay.proofs.Equal.{first_twice, members_twice, not_empty}
 use Rattle.realtime_replay.proofs.shapes.two_values.Goals as goal
 
