@@ -1,5 +1,5 @@
 -- What a reader shows, up to the first line feed.
-use Rattle.std.proofs.Common.{◌≡◌, ℕ, zero, suc, ◌+◌, ◌<◌, ◌≤◌, Bool, true, false, List, [], ◌∷◌, ◌++◌, refl, ap, subst, sym, ◌∙◌, length, take, drop, arith, append_assoc, append-nil, Option, Some, None, IfSome, take-append-drop}
+use Rattle.std.proofs.Common.{◌≡◌, ℕ, zero, suc, ◌<◌, ◌≤◌, Bool, true, false, List, [], ◌∷◌, ◌++◌, refl, ap, subst, sym, ◌∙◌, length, take, drop, arith, append_assoc, append-nil, Option, Some, None, IfSome, take-append-drop}
 use Rattle.std.specs.Prelude.{◌==◌, slice_index, Result, Ok, Err}
 use Rattle.std.specs.Io.{StartsWith}
 use Rattle.std.specs.Io.KnownBytes.{Keeps, IsAtEnd}

@@ -1,6 +1,6 @@
 -- A line and the lines behind it.
-use Rattle.std.proofs.Common.{◌≡◌, ℕ, zero, suc, ◌-◌, ◌<◌, Bool, true, false, cond, List, [], ◌∷◌, ◌++◌, refl, ap, subst, sym, ◌∙◌, length, take, get_or, arith, append_assoc, append-nil, length-append, ◌⊎◌, inl, inr, Option, Some, None, IfSome}
-use Rattle.std.specs.Prelude.{◌==◌, ◌&&◌, nat_lt, Result, Ok, Err, IfOk, OnOk, codes, Vec}
+use Rattle.std.proofs.Common.{◌≡◌, ℕ, zero, suc, ◌-◌, ◌<◌, Bool, true, false, List, [], ◌∷◌, ◌++◌, refl, ap, subst, sym, ◌∙◌, length, take, get_or, arith, append_assoc, append-nil, length-append, ◌⊎◌, inl, inr, Option, Some, None, IfSome}
+use Rattle.std.specs.Prelude.{◌==◌, nat_lt, Result, Ok, Err, IfOk, OnOk, codes, Vec}
 use Rattle.std.specs.declared.alloc.Global.{Global}
 use Rattle.std.specs.Fmt.{decimal}
 use Rattle.std.specs.Io.KnownBytes.{Appends, Keeps, IsAtEnd}
@@ -163,6 +163,9 @@ all_done (Some input) lefts held holds flushed (rest, is, (done, so_far, complet
     let none : rest ≡ [] = subst IsAtEnd is end in
     let nothing : Answers rest [] = subst (λ (xs : List ℕ). Answers xs []) (sym none) l.none in
     (done, subst (Answers input) (append-nil done) (completes [] nothing), appends_kept held holds flushed done so_far kept)
+
+pub in_memory : (input held holds : List ℕ) → held ≡ [] → HasAnswered (Some input) (Some held) (Some holds) → Answers input holds
+in_memory input held holds none (output, is, same) = subst (Answers input) (sym (same ∙ ap (λ (xs : List ℕ). xs ++ output) none)) is
 
 pub tree_answer : {E : Type 0} (before line : List ℕ) (tree : Json) (r : Result (Vec ℕ Global) E) → before ≡ [] → IsJson line tree → IfOk r (λ all. all.items ≡ before ++ written tree) → IfOk r (λ all. IsAnswer line all.items)
 tree_answer before line tree (Ok all) none is h = inl (tree, is, h ∙ ap (λ (xs : List ℕ). xs ++ written tree) none)

@@ -1,7 +1,7 @@
 ghost use Rattle.std.specs.Prelude.{◌≡◌, ◌≤◌, ℕ, List, [], ◌++◌, take, drop, length, Ok, true, false, IfOk, OnOk};
 ghost use Rattle.std.specs.Fmt.{decimal};
 ghost use Rattle.std.specs.Io.BufRead.{strip_last};
-ghost use Rattle.json_lines.specs.Lines.{IsAnswer, HasAnswered};
+ghost use Rattle.json_lines.specs.Lines.{IsAnswer, Answers, HasAnswered};
 ghost use Rattle.json_lines.specs.Parts.{Takes, IsWhole, IsPart};
 
 use memchr::memchr;
@@ -105,7 +105,7 @@ fn answer(alloc: Global, line: Vec<u8>) -> Result<Vec<u8>, AllocError>
 }
 
 /// Writes the answers to all lines that the reader has left, each with a line feed behind it. Fails where the reader
-/// or the writer does, or for want of memory.
+/// or the writer does, for want of memory, or past `u64::MAX` lines.
 pub fn answer_lines<R: BufRead, W: Write>(
     alloc: Global,
     input: &mut R,
@@ -124,4 +124,14 @@ pub fn answer_lines<R: BufRead, W: Write>(
         output.write_all(&line)?;
     }
     Err(ErrorKind::Other.into())
+}
+
+/// The answers to all lines of bytes in memory, each with a line feed behind it. Fails for want of memory.
+pub fn answers(alloc: Global, input: &[u8]) -> io::Result<Vec<u8>>
+    ensures { IfOk result (λ output. Answers input.now output.items) }
+{
+    let mut left = input;
+    let mut output = Vec::new(alloc);
+    answer_lines(alloc, &mut left, &mut output)?;
+    Ok(output)
 }
