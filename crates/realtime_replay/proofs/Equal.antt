@@ -11,14 +11,14 @@ use Rattle.std.proofs.lemmas.Bool.{eqb-true}
 use Rattle.rt_json.specs.Answers.{IsTree}
 use Rattle.rt_json.specs.declared.fault.JsonFault.{JsonFault}
 use Rattle.rt_json.specs.declared.fault.JsonFault.TheVariants as json
-use Rattle.realtime_replay.specs.Trees.{named}
+use Rattle.rt_first.specs.Trees.{named}
 use Rattle.realtime_replay.specs.Faults.{of_json}
-use Rattle.realtime_replay.specs.Script.{frame_tree, insert_tree, IsField, IsInsertTree, IsRow, IsRowLine, AreSaid}
+use Rattle.rt_first.specs.Script.{frame_tree, insert_tree, IsField, IsInsertTree, IsRow, IsRowLine, AreSaid}
 use Rattle.realtime_replay.specs.declared.fault.FormFault.TheVariants as form
-use Rattle.realtime_replay.specs.declared.catalogue.Catalogue.{Catalogue}
-use Rattle.realtime_replay.specs.declared.catalogue.Column.{Column}
-use Rattle.realtime_replay.specs.declared.join.Join.{Join}
-use Rattle.realtime_replay.specs.declared.script.Script.{Script}
+use Rattle.rt_first.specs.declared.catalogue.Catalogue.{Catalogue}
+use Rattle.rt_first.specs.declared.catalogue.Column.{Column}
+use Rattle.rt_first.specs.declared.script.Join.{Join}
+use Rattle.rt_first.specs.declared.script.Script.{Script}
 
 pub same_members : (a b : List Member) → j.Object a ≡ j.Object b → a ≡ b
 same_members a b e = let layer : Json-F.Object a ≡ Json-F.Object b = sym (outs-Object a) ∙ ap out-Json e ∙ outs-Object b in cc

@@ -1,6 +1,6 @@
 -- Lists cut at a byte, and lists compared one element at a time.
 use Rattle.std.proofs.Common.{codes, ◌^◌, Option, Some, None, length-append, ◌≡◌, ◌≢◌, ℕ, zero, suc, ◌+◌, ◌<◌, List, [], ◌∷◌, ◌++◌, length, Bor, refl, ap, sym, arith, ◌∙◌}
-use Rattle.realtime_replay.specs.Script.{Lacks, AreLines, AreParts, slot_line}
+use Rattle.rt_first.specs.Script.{Lacks, AreLines, AreParts, slot_line}
 use Rattle.std.specs.Prelude.{slice_index, MatchOption, ◌%◌, not, Bool, true, false, IsTrue, ◌↔◌}
 use Rattle.std.specs.Fmt.{decimal}
 use Rattle.std.specs.Str.{bytes_eq}

@@ -1,13 +1,13 @@
 -- The words of a catalogue's statements are read in one way.
 use Rattle.std.proofs.Common.{◌≡◌, ◌≢◌, ℕ, Bool, true, false, List, [], ◌∷◌, codes, refl, ap, sym, ◌∙◌, arith}
 use Rattle.std.specs.Prelude.{slice_index}
-use Rattle.realtime_replay.specs.Messages.{shown_type}
-use Rattle.realtime_replay.specs.Statements.{AreNamed, AreStatements, column_words, columns_words, grant_words, key_place, key_words, role_words, table_words}
-use Rattle.realtime_replay.specs.declared.catalogue.ColumnType.{ColumnType}
-use Rattle.realtime_replay.specs.declared.catalogue.ColumnType.TheVariants as t
-use Rattle.realtime_replay.specs.declared.catalogue.Column.{Column}
-use Rattle.realtime_replay.specs.declared.catalogue.Table.{Table}
-use Rattle.realtime_replay.specs.declared.catalogue.Catalogue.{Catalogue}
+use Rattle.rt_first.specs.Messages.{shown_type}
+use Rattle.rt_first.specs.Statements.{AreNamed, AreStatements, column_words, columns_words, grant_words, key_place, key_words, role_words, table_words}
+use Rattle.rt_first.specs.declared.catalogue.ColumnType.{ColumnType}
+use Rattle.rt_first.specs.declared.catalogue.ColumnType.TheVariants as t
+use Rattle.rt_first.specs.declared.catalogue.Column.{Column}
+use Rattle.rt_first.specs.declared.catalogue.Table.{Table}
+use Rattle.rt_first.specs.declared.catalogue.Catalogue.{Catalogue}
 
 pub cons_twice : {A : Type 0} {words r s : List A} {a b : A} → words ≡ a ∷ r → words ≡ b ∷ s → (a ≡ b) × (r ≡ s)
 cons_twice {A} {words} {r} {s} {a} {b} e f = let both : a ∷ r ≡ b ∷ s = sym e ∙ f in (cc, cc)

@@ -2,9 +2,9 @@
 use Rattle.std.proofs.Common.{◌≡◌, ℕ, zero, suc, ◌+◌, ◌<◌, List, [], ◌∷◌, ◌++◌, length, take, get_or, min, refl, ap, arith, add-one, ◌∙◌}
 use Rattle.rt_json.specs.declared.tree.Json.{Json}
 use Rattle.rt_json.specs.declared.tree.named.Member.{Member}
-use Rattle.realtime_replay.specs.declared.catalogue.Column.{Column}
-use Rattle.realtime_replay.specs.Trees.{named}
-use Rattle.realtime_replay.specs.Messages.{row_members}
+use Rattle.rt_first.specs.declared.catalogue.Column.{Column}
+use Rattle.rt_first.specs.Trees.{named}
+use Rattle.rt_first.specs.Messages.{row_members}
 
 pub one_more : (columns : List Column) (values : List Json) (d : Column) (e : Json) (i : ℕ) → i < length columns → i < length values
     → row_members (take (suc i) columns) (take (suc i) values) ≡ row_members (take i columns) (take i values) ++ named (get_or columns i d).name (get_or values i e) ∷ []

@@ -1,10 +1,3 @@
 pub mod Answers
 pub mod Faults
-pub mod Lexing
-pub mod Messages
-pub mod Output
-pub mod Printed
-pub mod Script
-pub mod Statements
-pub mod Trees
 pub mod Words

@@ -1,42 +1,14 @@
 ghost use Rattle.std.specs.Prelude.{◌≡◌, ◌∷◌, [], ℕ, List, IfOk, MatchResult};
-ghost use Rattle.realtime_replay.specs.Statements as spec;
-ghost use Rattle.realtime_replay.specs.Statements.{AreStatements, IsCatalogue};
-ghost use Rattle.realtime_replay.specs.declared.catalogue.Catalogue as c;
+ghost use Rattle.rt_first.specs.Statements as spec;
+ghost use Rattle.rt_first.specs.Statements.{AreStatements, IsCatalogue};
+ghost use Rattle.rt_first.specs.declared.catalogue.Catalogue as c;
 
 use crate::fault::FormFault;
 use crate::lexing::words_of;
 use crate::statements::names_in;
+use rt_first::{Catalogue, Column, ColumnType, Table};
 use rt_value::{List, Text};
 use std::alloc::{AllocError, Global};
-
-/// The type of a column of the first path.
-#[derive(Clone, Copy, Debug, PartialEq, Eq)]
-pub enum ColumnType {
-    Int4,
-    Text,
-}
-
-#[derive(Debug, Drop)]
-pub struct Column {
-    pub name: Text,
-    pub column_type: ColumnType,
-}
-
-/// A table of the schema `public`.
-#[derive(Debug, Drop)]
-pub struct Table {
-    pub name: Text,
-    pub columns: List<Column>,
-    /// The place of the primary key's column, from 0.
-    pub key: usize,
-}
-
-/// One table, and the role that may read it.
-#[derive(Debug, Drop)]
-pub struct Catalogue {
-    pub table: Table,
-    pub role: Text,
-}
 
 fn key_place(second_is_key: bool) -> usize
     ensures { result ≡ spec.key_place second_is_key }

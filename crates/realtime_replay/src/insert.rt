@@ -2,16 +2,16 @@ ghost use Rattle.std.specs.Prelude.{◌≡◌, ◌↔◌, ◌∷◌, [], ℕ, tr
 ghost use Rattle.std.specs.Char.{is_ascii_digit};
 ghost use Rattle.std.specs.List.{list_all};
 ghost use Rattle.rt_json.specs.declared.tree.Json as j;
-ghost use Rattle.realtime_replay.specs.Script.{HasColumns, HasKeyName, IsField, IsFields, IsInsert, IsInsertTree, IsKey, IsRow, IsRowLine, fits, insert_tree, is_small_number, without_minus};
-ghost use Rattle.realtime_replay.specs.declared.catalogue.Column as c;
+ghost use Rattle.rt_first.specs.Script.{HasColumns, HasKeyName, IsField, IsFields, IsInsert, IsInsertTree, IsKey, IsRow, IsRowLine, fits, insert_tree, is_small_number, without_minus};
+ghost use Rattle.rt_first.specs.declared.catalogue.Column as c;
 
-use crate::catalogue::{Column, ColumnType, Table};
 use crate::fault::FormFault;
 use crate::join::tree_of;
 use crate::shapes::{
     first_named, first_text, is_text, members_of, only_element, three_values, two_elements,
     two_values,
 };
+use rt_first::{Column, ColumnType, Table};
 use rt_json::Json;
 use rt_value::List;
 use std::alloc::{AllocError, Global};

@@ -3,14 +3,15 @@ ghost use Rattle.rt_json.specs.Grammar.{IsJson};
 ghost use Rattle.rt_json.specs.declared.tree.Json as j;
 ghost use Rattle.rt_json.specs.declared.tree.named.Member as m;
 ghost use Rattle.realtime_replay.specs.Faults.{of_json};
-ghost use Rattle.realtime_replay.specs.Messages.{wanted_binding};
-ghost use Rattle.realtime_replay.specs.Script.{AreNamed, IsChannel, IsJoin, IsJoinTree, bindings_tree, config_tree, frame_tree, join_tree, payload_tree, presence_tree};
-ghost use Rattle.realtime_replay.specs.declared.join.Join as join;
+ghost use Rattle.rt_first.specs.Messages.{wanted_binding};
+ghost use Rattle.rt_first.specs.Script.{AreNamed, IsChannel, IsJoin, IsJoinTree, bindings_tree, config_tree, frame_tree, join_tree, payload_tree, presence_tree};
+ghost use Rattle.rt_first.specs.declared.script.Join as join;
 
 use crate::fault::FormFault;
 use crate::shapes::{
     first_named, first_text, members_of, only_element, only_value, text_of, two_values,
 };
+use rt_first::Join;
 use rt_json::{Json, JsonFault, Member, read};
 use rt_value::Text;
 use std::alloc::Global;
@@ -20,16 +21,6 @@ const MOST_FRAME_BYTES: usize = 1048576;
 
 /// What the topic of a channel begins with.
 const TOPIC_PREFIX: &str = "realtime:";
-
-/// A client's wish to join a channel with one binding, to all changes of the table.
-#[derive(Drop)]
-pub struct Join {
-    pub topic: Text,
-    /// The topic without its prefix.
-    pub channel: Text,
-    /// What the client calls the frame.
-    pub reference: Text,
-}
 
 /// The members behind those of a binding to every event of the table.
 fn behind_binding<'a>(tree: &'a Json, table: &str) -> Option<&'a [Member]>

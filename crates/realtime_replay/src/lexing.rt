@@ -6,7 +6,7 @@ ghost use Rattle.std.specs.Str.Iter.{HasSubslice};
 ghost use Rattle.rt_sql.specs.Cut.{IsCut};
 ghost use Rattle.rt_sql.specs.Lexeme.{IsTokenOf};
 ghost use Rattle.rt_sql.specs.declared.lexeme.Token as token;
-ghost use Rattle.realtime_replay.specs.Lexing.{AreWords, begins_name, is_name, is_plain, reserved, word_of};
+ghost use Rattle.rt_first.specs.Lexing.{AreWords, begins_name, is_name, is_plain, reserved, word_of};
 
 use crate::fault::FormFault;
 use rt_sql::{SqlFault, Token, TokenKind, tokens};

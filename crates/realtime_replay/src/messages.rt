@@ -1,9 +1,9 @@
 //! What the server says on a channel, as trees. The bytes are made by `printing`.
 ghost use Rattle.std.specs.Prelude.{◌≡◌, ◌++◌, ◌∷◌, [], IfOk, OnOk, map};
-ghost use Rattle.realtime_replay.specs.Messages as spec;
+ghost use Rattle.rt_first.specs.Messages as spec;
 
-use crate::catalogue::{Column, ColumnType, Table};
 use crate::trees::{list_tree, number_tree, object_tree, put, put_text, text_tree};
+use rt_first::{Column, ColumnType, Table};
 use rt_json::{Json, Member};
 use std::alloc::{AllocError, Global};
 

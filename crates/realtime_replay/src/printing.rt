@@ -1,6 +1,6 @@
 //! The one place where the output's bytes are made.
 ghost use Rattle.std.specs.Prelude.{◌≡◌, ◌++◌, IfOk, OnOk};
-ghost use Rattle.realtime_replay.specs.Printed.{printed, printed_line};
+ghost use Rattle.rt_first.specs.Printed.{printed, printed_line};
 
 use rt_json::{Json, write};
 use rt_value::Bytes;

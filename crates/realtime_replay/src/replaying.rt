@@ -1,18 +1,19 @@
 ghost use Rattle.std.specs.Prelude.{◌≡◌, ◌⊎◌, map, IfErr, IfOk, OnOk as OnSuccess};
 ghost use Rattle.rt_io.specs.Streams.{Rose};
-ghost use Rattle.realtime_replay.specs.Output.{given};
-ghost use Rattle.realtime_replay.specs.Printed.{printed};
+ghost use Rattle.rt_first.specs.Output.{given};
+ghost use Rattle.rt_first.specs.Printed.{printed};
 ghost use Rattle.realtime_replay.specs.Words.{NoCommand, IsCommand};
 ghost use Rattle.realtime_replay.specs.declared.words.Command.{Command};
 ghost use Rattle.realtime_replay.specs.Answers.{FaultTells, IsTooLong, IsReadToEnd, OnOk, OnUsage, OnReadFault, OnTooLong, OnWriteFault, UnlessWritten, IsNotUsage};
 
-use crate::catalogue::{Catalogue, read_catalogue};
+use crate::catalogue::read_catalogue;
 use crate::fault::RunFault;
 use crate::messages::{change, join_reply, subscribed};
 use crate::printing::print_slot;
-use crate::script::{Script, read_script};
+use crate::script::read_script;
 use crate::status::{Status, status_of};
 use crate::words::{Command, command_of};
+use rt_first::{Catalogue, Script};
 use rt_io::{Sink, Source, read_all, write_all};
 use rt_value::Bytes;
 use std::alloc::{AllocError, Global};

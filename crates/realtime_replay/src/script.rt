@@ -1,26 +1,17 @@
 ghost use Rattle.std.specs.Prelude.{◌≡◌, ◌↔◌, ◌++◌, ◌∷◌, ◌≤◌, ◌<◌, ℕ, List, codes, IfOk, IfErr, IsTrue, MatchOption, MatchResult, OnOk};
 ghost use Rattle.std.specs.Fmt.{decimal};
-ghost use Rattle.realtime_replay.specs.Script.{AreLines, AreParts, AreSaid, IsClaims, IsScript, Lacks, claims_tree, slot_line};
-ghost use Rattle.realtime_replay.specs.declared.script.Script as script;
+ghost use Rattle.rt_first.specs.Script.{AreLines, AreParts, AreSaid, IsClaims, IsScript, Lacks, claims_tree, slot_line};
+ghost use Rattle.rt_first.specs.declared.script.Script as script;
 
-use crate::catalogue::Catalogue;
 use crate::fault::FormFault;
 use crate::insert::inserted_row;
-use crate::join::{Join, join_of, tree_of};
+use crate::join::{join_of, tree_of};
 use crate::numbers::number_of;
 use crate::shapes::{is_text, only_value};
+use rt_first::{Catalogue, Script};
 use rt_json::Json;
 use rt_value::List;
 use std::alloc::Global;
-
-/// The script of the first path: a slot opens and joins a channel, a row is inserted, the stream is polled.
-#[derive(Drop)]
-pub struct Script {
-    pub slot: u8,
-    pub join: Join,
-    /// The inserted row, a value for each column of the table.
-    pub row: List<Json>,
-}
 
 /// What stands before and behind the first byte of a kind.
 fn cut(text: &str, byte: char) -> Option<(&str, &str)>

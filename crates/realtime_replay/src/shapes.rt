@@ -1,6 +1,6 @@
 //! Tests of a tree's shape, each telling exactly which tree it is.
 ghost use Rattle.std.specs.Prelude.{◌≡◌, ◌↔◌, ◌∷◌, [], ℕ, List, IsTrue, MatchOption};
-ghost use Rattle.realtime_replay.specs.Trees.{named};
+ghost use Rattle.rt_first.specs.Trees.{named};
 ghost use Rattle.rt_json.specs.declared.tree.named.Member as m;
 ghost use Rattle.rt_json.specs.declared.tree.Json as j;
 

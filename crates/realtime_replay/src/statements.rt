@@ -1,12 +1,12 @@
 //! The words of a catalogue's statements, read from the first on. What reads a part answers it and the words behind it.
 ghost use Rattle.std.specs.Prelude.{◌≡◌, ◌≢◌, ◌↔◌, ◌∷◌, ℕ, Bool, List, codes, not, true, IsTrue, MatchOption};
-ghost use Rattle.realtime_replay.specs.Lexing as lexing;
-ghost use Rattle.realtime_replay.specs.Messages.{shown_type};
-ghost use Rattle.realtime_replay.specs.Statements.{AreColumns, AreNamed, IsRole, column_words, columns_words, grant_words, key_words, role_words, table_words};
-ghost use Rattle.realtime_replay.specs.declared.catalogue.ColumnType as t;
+ghost use Rattle.rt_first.specs.Lexing as lexing;
+ghost use Rattle.rt_first.specs.Messages.{shown_type};
+ghost use Rattle.rt_first.specs.Statements.{AreColumns, AreNamed, IsRole, column_words, columns_words, grant_words, key_words, role_words, table_words};
+ghost use Rattle.rt_first.specs.declared.catalogue.ColumnType as t;
 
-use crate::catalogue::ColumnType;
 use crate::lexing::is_name;
+use rt_first::ColumnType;
 use rt_value::Text;
 
 fn is_word(word: &Text, wanted: &str) -> bool

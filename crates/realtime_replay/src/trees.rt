@@ -1,7 +1,7 @@
 //! Small JSON trees.
 ghost use Rattle.std.specs.Prelude.{◌≡◌, ◌++◌, ◌∷◌, [], IfOk, OnOk};
 ghost use Rattle.std.specs.Fmt.{decimal};
-ghost use Rattle.realtime_replay.specs.Trees.{named};
+ghost use Rattle.rt_first.specs.Trees.{named};
 
 use rt_json::{Json, Member};
 use rt_value::{List, Text};

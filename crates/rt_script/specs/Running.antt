@@ -12,6 +12,7 @@ use Rattle.rt_entry.specs.declared.input.Step.TheVariants.{Arrive, Feed, Take, T
 use Rattle.rt_entry.specs.declared.answer.Item.{Item}
 use Rattle.rt_entry.specs.declared.answer.Item.TheVariants.{Message, End}
 use Rattle.rt_entry.specs.Story.{every_slot}
+use Rattle.rt_entry.specs.Answers.{due}
 use Rattle.rt_entry.specs.Machine.{World, Outcome, done, spent, rows_full, start, step_of, run}
 use Rattle.rt_script.specs.declared.script.Act.{Act}
 use Rattle.rt_script.specs.declared.script.Act.TheVariants.{One, Drain}
@@ -108,3 +109,10 @@ slot_lines w slot = flat_map (item_line slot) (w.slots slot).given
 -- what is printed of a world: each slot's items, slot by slot
 unfoldable pub printed : World → List ℕ
 printed w = flat_map (slot_lines w) every_slot
+
+-- what is printed where each slot was given all that is due to it
+abbrev pub due_lines : Catalog → Settings → List Input → ℕ → List ℕ
+due_lines c s journal slot = flat_map (item_line slot) (due c s journal slot)
+
+unfoldable pub printed_due : Catalog → Settings → List Input → List ℕ
+printed_due c s journal = flat_map (due_lines c s journal) every_slot

@@ -1,5 +1,5 @@
 use Rattle.std.proofs.Common.{ap, sym, ◌∙◌}
-use Rattle.realtime_replay.specs.Statements.{key_place}
+use Rattle.rt_first.specs.Statements.{key_place}
 use Rattle.realtime_replay.proofs.Once.{named_once, same_catalogue, same_column, same_two}
 use Rattle.realtime_replay.proofs.catalogue.catalogue_of.Goals as goal
 

@@ -1,7 +1,7 @@
 use Rattle.std.proofs.Common.{List, ℕ, sym, subst, ◌∙◌}
 use Rattle.std.proofs.lemmas.Result.{err_from_is_err_and}
-use Rattle.realtime_replay.specs.Lexing.{AreWords}
-use Rattle.realtime_replay.specs.Statements.{AreStatements}
+use Rattle.rt_first.specs.Lexing.{AreWords}
+use Rattle.rt_first.specs.Statements.{AreStatements}
 use Rattle.realtime_replay.proofs.catalogue.read_catalogue.Goals as goal
 
 pub returns-in_err-words-clause-only : goal.returns-in_err-words-clause-only

@@ -1,7 +1,7 @@
 use Rattle.std.proofs.Common.{sym, ap, refl, ◌∙◌, subst}
 use Rattle.rt_json.specs.declared.tree.Json.{Json}
 use Rattle.rt_json.specs.declared.tree.Json.TheVariants as j
-use Rattle.realtime_replay.specs.Script.{HasKeyName}
+use Rattle.rt_first.specs.Script.{HasKeyName}
 use Rattle.realtime_replay.proofs.Equal.{items_twice, one_head, two_twice, untrue}
 use Rattle.realtime_replay.proofs.insert.is_key.Goals as goal
 

@@ -1,6 +1,6 @@
 use Rattle.std.proofs.Common.{sym, ◌∙◌, subst}
 use Rattle.rt_json.specs.declared.tree.Json.{Json}
-use Rattle.realtime_replay.specs.Script.{IsFields, IsKey}
+use Rattle.rt_first.specs.Script.{IsFields, IsKey}
 use Rattle.realtime_replay.proofs.Equal.{insert_twice, untrue}
 use Rattle.realtime_replay.proofs.insert.row_in.Goals as goal
 

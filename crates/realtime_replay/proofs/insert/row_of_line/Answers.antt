@@ -1,7 +1,7 @@
 use Rattle.std.proofs.Common.{sym, subst}
 use Rattle.rt_json.specs.declared.tree.Json.{Json}
 use Rattle.std.proofs.lemmas.Result.{err_from_is_err_and}
-use Rattle.realtime_replay.specs.Script.{IsRow}
+use Rattle.rt_first.specs.Script.{IsRow}
 use Rattle.realtime_replay.proofs.insert.row_of_line.Goals as goal
 
 pub returns-in_err-tree-clause-only : goal.returns-in_err-tree-clause-only

@@ -1,6 +1,6 @@
 use Rattle.std.proofs.Common.{◌≡◌, sym, ◌∙◌, true, subst}
 use Rattle.rt_json.specs.declared.tree.Json.{Json}
-use Rattle.realtime_replay.specs.Script.{fits}
+use Rattle.rt_first.specs.Script.{fits}
 use Rattle.realtime_replay.proofs.Equal.{three_twice, untrue}
 use Rattle.realtime_replay.proofs.insert.value_in.Goals as goal
 

@@ -1,6 +1,6 @@
 use Rattle.std.proofs.Common.{sym, subst}
 use Rattle.rt_json.specs.declared.tree.Json.{Json}
-use Rattle.realtime_replay.specs.Script.{IsField}
+use Rattle.rt_first.specs.Script.{IsField}
 use Rattle.realtime_replay.proofs.Equal.{items_twice, two_heads}
 use Rattle.realtime_replay.proofs.insert.values_in.Goals as goal
 

@@ -1,6 +1,6 @@
 use Rattle.std.proofs.Common.{◌++◌, length, ◌==◌, ap, ◌∙◌}
 use Rattle.rt_json.specs.declared.tree.Json.TheVariants as j
-use Rattle.realtime_replay.specs.Messages.{wanted_binding}
+use Rattle.rt_first.specs.Messages.{wanted_binding}
 use Rattle.realtime_replay.proofs.Equal.{behind_three, empty_of, members_twice}
 use Rattle.realtime_replay.proofs.join.is_binding.Goals as goal
 

@@ -1,5 +1,5 @@
 use Rattle.std.proofs.Common.{List, ℕ, sym, ◌∙◌, subst}
-use Rattle.realtime_replay.specs.Script.{IsChannel}
+use Rattle.rt_first.specs.Script.{IsChannel}
 use Rattle.realtime_replay.proofs.Equal.{frame_twice, text_twice}
 use Rattle.realtime_replay.proofs.join.names_of.Goals as goal
 

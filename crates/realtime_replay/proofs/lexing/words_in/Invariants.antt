@@ -1,6 +1,6 @@
 use Rattle.std.proofs.Common.{◌≡◌, map, take, true}
 use Rattle.std.specs.List.{list_all}
-use Rattle.realtime_replay.specs.Lexing.{is_plain, word_of}
+use Rattle.rt_first.specs.Lexing.{is_plain, word_of}
 use Rattle.realtime_replay.proofs.lexing.words_in.Given as goal
 
 abbrev pub invariant-loop-token : goal.invariant-loop-token

@@ -1,5 +1,5 @@
 use Rattle.std.proofs.Common.{◌≡◌, map, take}
-use Rattle.realtime_replay.specs.Messages.{column_tree}
+use Rattle.rt_first.specs.Messages.{column_tree}
 use Rattle.realtime_replay.proofs.messages.column_trees.Given as goal
 
 abbrev pub invariant-loop-column : goal.invariant-loop-column

@@ -1,5 +1,5 @@
 use Rattle.std.proofs.Common.{◌≡◌, take}
-use Rattle.realtime_replay.specs.Messages.{row_members}
+use Rattle.rt_first.specs.Messages.{row_members}
 use Rattle.realtime_replay.proofs.messages.row_tree.Given as goal
 
 abbrev pub invariant-loop-i : goal.invariant-loop-i

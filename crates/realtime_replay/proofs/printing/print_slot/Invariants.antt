@@ -1,5 +1,5 @@
 use Rattle.std.proofs.Common.{◌≡◌, take}
-use Rattle.realtime_replay.specs.Printed.{printed}
+use Rattle.rt_first.specs.Printed.{printed}
 use Rattle.realtime_replay.proofs.printing.print_slot.Given as goal
 
 abbrev pub invariant-loop-message : goal.invariant-loop-message

@@ -1,6 +1,6 @@
 use Rattle.std.proofs.Common.{◌∷◌, [], ap, ◌∙◌}
 use Rattle.rt_json.specs.declared.tree.Json.TheVariants as j
-use Rattle.realtime_replay.specs.Trees.{named}
+use Rattle.rt_first.specs.Trees.{named}
 use Rattle.realtime_replay.proofs.Equal.{first_twice, members_twice}
 use Rattle.std.proofs.Common.{codes}
 use Rattle.realtime_replay.proofs.script.is_claims.Goals as goal

@@ -1,6 +1,6 @@
 use Rattle.std.proofs.Common.{List, ℕ, subst}
 use Rattle.std.proofs.lemmas.Result.{err_from_is_err_and}
-use Rattle.realtime_replay.specs.Script.{AreParts}
+use Rattle.rt_first.specs.Script.{AreParts}
 use Rattle.realtime_replay.proofs.Equal.{said_same}
 use Rattle.realtime_replay.proofs.Lists.{parts_once}
 use Rattle.realtime_replay.proofs.script.read_script.Goals as goal

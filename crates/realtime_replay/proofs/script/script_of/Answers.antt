@@ -1,6 +1,6 @@
 use Rattle.std.proofs.Common.{List, ℕ, sym, subst}
 use Rattle.std.proofs.lemmas.Result.{err_from_is_err_and}
-use Rattle.realtime_replay.specs.Script.{IsClaims, IsJoin}
+use Rattle.rt_first.specs.Script.{IsClaims, IsJoin}
 use Rattle.realtime_replay.proofs.Equal.{same_script}
 use Rattle.realtime_replay.proofs.script.script_of.Goals as goal
 

@@ -1,10 +1,10 @@
 -- The catalogue of the first path, as its text is written: three statements. The words of each part are followed by the others, its last argument.
 use Rattle.std.specs.Prelude.{◌≡◌, ◌≢◌, ℕ, Bool, true, false, not, List, [], ◌∷◌, codes}
-use Rattle.realtime_replay.specs.Lexing.{AreWords, is_name}
-use Rattle.realtime_replay.specs.Messages.{shown_type}
-use Rattle.realtime_replay.specs.declared.catalogue.ColumnType.{ColumnType}
-use Rattle.realtime_replay.specs.declared.catalogue.Column.{Column}
-use Rattle.realtime_replay.specs.declared.catalogue.Catalogue.{Catalogue}
+use Rattle.rt_first.specs.Lexing.{AreWords, is_name}
+use Rattle.rt_first.specs.Messages.{shown_type}
+use Rattle.rt_first.specs.declared.catalogue.ColumnType.{ColumnType}
+use Rattle.rt_first.specs.declared.catalogue.Column.{Column}
+use Rattle.rt_first.specs.declared.catalogue.Catalogue.{Catalogue}
 
 -- behind the key column's type
 abbrev pub key_words : Bool → List (List ℕ) → List (List ℕ)

@@ -6,15 +6,15 @@ use Rattle.std.specs.List.{list_all}
 use Rattle.rt_json.specs.Grammar.{IsJson}
 use Rattle.rt_json.specs.declared.tree.Json.{Json, Num, Text}
 use Rattle.rt_json.specs.declared.tree.Json.TheVariants as j
-use Rattle.realtime_replay.specs.Trees.{named}
-use Rattle.realtime_replay.specs.Messages.{wanted_binding}
-use Rattle.realtime_replay.specs.declared.catalogue.ColumnType.{ColumnType}
-use Rattle.realtime_replay.specs.declared.catalogue.ColumnType.TheVariants as t
-use Rattle.realtime_replay.specs.declared.catalogue.Column.{Column}
-use Rattle.realtime_replay.specs.declared.catalogue.Table.{Table}
-use Rattle.realtime_replay.specs.declared.catalogue.Catalogue.{Catalogue}
-use Rattle.realtime_replay.specs.declared.join.Join.{Join}
-use Rattle.realtime_replay.specs.declared.script.Script.{Script}
+use Rattle.rt_first.specs.Trees.{named}
+use Rattle.rt_first.specs.Messages.{wanted_binding}
+use Rattle.rt_first.specs.declared.catalogue.ColumnType.{ColumnType}
+use Rattle.rt_first.specs.declared.catalogue.ColumnType.TheVariants as t
+use Rattle.rt_first.specs.declared.catalogue.Column.{Column}
+use Rattle.rt_first.specs.declared.catalogue.Table.{Table}
+use Rattle.rt_first.specs.declared.catalogue.Catalogue.{Catalogue}
+use Rattle.rt_first.specs.declared.script.Join.{Join}
+use Rattle.rt_first.specs.declared.script.Script.{Script}
 
 -- a byte stands nowhere in the bytes
 abbrev pub Lacks : ℕ → List ℕ → Type 0

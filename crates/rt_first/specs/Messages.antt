@@ -4,11 +4,11 @@ use Rattle.std.specs.Fmt.{decimal}
 use Rattle.rt_json.specs.declared.tree.Json.{Json}
 use Rattle.rt_json.specs.declared.tree.Json.TheVariants as j
 use Rattle.rt_json.specs.declared.tree.named.Member.{Member}
-use Rattle.realtime_replay.specs.Trees.{named}
-use Rattle.realtime_replay.specs.declared.catalogue.ColumnType.{ColumnType}
-use Rattle.realtime_replay.specs.declared.catalogue.ColumnType.TheVariants as t
-use Rattle.realtime_replay.specs.declared.catalogue.Column.{Column}
-use Rattle.realtime_replay.specs.declared.catalogue.Table.{Table}
+use Rattle.rt_first.specs.Trees.{named}
+use Rattle.rt_first.specs.declared.catalogue.ColumnType.{ColumnType}
+use Rattle.rt_first.specs.declared.catalogue.ColumnType.TheVariants as t
+use Rattle.rt_first.specs.declared.catalogue.Column.{Column}
+use Rattle.rt_first.specs.declared.catalogue.Table.{Table}
 
 -- a message is an object of these four members
 abbrev pub message : List ℕ → List ℕ → Json → Json → Json

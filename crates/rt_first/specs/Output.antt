@@ -1,9 +1,9 @@
 -- What the slot of the first path is given: the reply to its join, the system's message, the change.
 use Rattle.std.specs.Prelude.{List, [], ◌∷◌}
 use Rattle.rt_json.specs.declared.tree.Json.{Json}
-use Rattle.realtime_replay.specs.Messages.{join_reply, subscribed, change}
-use Rattle.realtime_replay.specs.declared.catalogue.Catalogue.{Catalogue}
-use Rattle.realtime_replay.specs.declared.script.Script.{Script}
+use Rattle.rt_first.specs.Messages.{join_reply, subscribed, change}
+use Rattle.rt_first.specs.declared.catalogue.Catalogue.{Catalogue}
+use Rattle.rt_first.specs.declared.script.Script.{Script}
 
 abbrev pub given : Catalogue → Script → List Json
 given catalogue script =
