@@ -1,57 +1,157 @@
--- What each answer of a run tells of the sources and of the output.
-use Rattle.std.specs.Prelude.{◌≡◌, ℕ, ◌<◌, List, [], length, Option, Some, IfSome}
-use Rattle.realtime_replay.specs.declared.fault.RunFault.{RunFault}
-use Rattle.realtime_replay.specs.declared.fault.RunFault.TheVariants as f
+-- What each answer of the program tells of its words, of the two sources and of the output. For the first that applies, in this order: the words,
+-- reading the catalogue, the catalogue, reading the script, the script, the writing. Want of memory alone may come in place of any.
+use Rattle.std.specs.Prelude.{◌≡◌, ◌≢◌, ◌⊎◌, ℕ, ◌<◌, ◌≤◌, List, [], codes, length, Option, Some, IfSome}
+use Rattle.rt_io.specs.Streams.{Rose, Puts}
+use Rattle.rt_io.specs.Whole.{ReadsAll, PutsFront}
+use Rattle.rt_entry.specs.declared.input.Input.{Input}
+use Rattle.rt_script.specs.Reading.{default_settings}
+use Rattle.rt_script.specs.Running.{printed_due}
+use Rattle.rt_first.specs.First.{catalog_of, AreInputsOf}
+use Rattle.rt_first.specs.Script.{IsScript}
+use Rattle.rt_first.specs.Statements.{IsCatalogue}
+use Rattle.rt_first.specs.declared.catalogue.Catalogue.{Catalogue}
+use Rattle.rt_first.specs.declared.script.Script.{Script}
+use Rattle.realtime_replay.specs.Words.{IsCommand, NoCommand}
+use Rattle.realtime_replay.specs.declared.words.Command.{Command}
+use Rattle.realtime_replay.specs.declared.words.Command.TheVariants.{Replay}
 use Rattle.realtime_replay.specs.declared.status.Status.{Status}
 use Rattle.realtime_replay.specs.declared.status.Status.TheVariants as s
+
+-- A source or a sink in a call: what it had left, or had taken, at the call and at the return, and how often it had failed.
+pub record Flow : Type 0 where
+  pub before : Option (List ℕ)
+  pub after : Option (List ℕ)
+  pub failed : ℕ
+  pub failed_after : ℕ
+
+abbrev pub flow : Option (List ℕ) → Option (List ℕ) → ℕ → ℕ → Flow
+flow before after failed failed_after = record { before = before; after = after; failed = failed; failed_after = failed_after }
+
+abbrev pub HasFailed : Flow → Type 0
+HasFailed f = Rose f.failed f.failed_after
+
+abbrev pub IsUntouched : Flow → Type 0
+IsUntouched f = f.after ≡ f.before
 
 -- the most bytes of a source
 abbrev pub most_bytes : ℕ
 most_bytes = 67108864
 
--- of what a source had left at the call: more bytes than are read
-abbrev pub IsTooLong : Option (List ℕ) → Type 0
-IsTooLong left = IfSome left (λ bytes. most_bytes < length bytes)
+abbrev pub IsTooLong : Flow → Type 0
+IsTooLong f = IfSome f.before (λ bytes. most_bytes < length bytes)
 
--- of what a source had left at the call and at the return: it was read to its end
-abbrev pub IsReadToEnd : Option (List ℕ) → Option (List ℕ) → Type 0
-IsReadToEnd left left_after = IfSome left (λ _. left_after ≡ Some [])
+-- the text is all that the source had left, and it was read to its end
+abbrev pub Gave : Flow → List ℕ → Type 0
+Gave f text = ReadsAll f.before f.after most_bytes text
 
--- What each fault tells, of these facts: a source failed, one is too long, the output failed, the output is as it was.
-abbrev pub FaultTells : Type 0 → Type 0 → Type 0 → Type 0 → RunFault → Type 0
-FaultTells read_failed is_long write_failed is_untouched f.NoMemory = is_untouched
-FaultTells read_failed is_long write_failed is_untouched f.ReadFault = read_failed × is_untouched
-FaultTells read_failed is_long write_failed is_untouched f.TooLong = is_long × is_untouched
-FaultTells read_failed is_long write_failed is_untouched f.NotBuilt = is_untouched
-FaultTells read_failed is_long write_failed is_untouched f.WriteFault = write_failed
+-- the source gave the text of a catalogue of the first form
+pub record HasCatalogue (source : Flow) (c : Catalogue) : Type 0 where
+  pub text : List ℕ
+  pub gave : Gave source text
+  pub is : IsCatalogue text c
 
--- a fact for one status alone
-abbrev pub OnOk : Status → Type 0 → Type 0
-OnOk s.Ok P = P
-OnOk _ P = Unit {0}
+-- it gave a text that is none
+pub record HasNoCatalogue (source : Flow) : Type 0 where
+  pub text : List ℕ
+  pub gave : Gave source text
+  pub none : (c : Catalogue) → IsCatalogue text c → ⊥
 
-abbrev pub OnUsage : Status → Type 0 → Type 0
-OnUsage s.Usage P = P
-OnUsage _ P = Unit {0}
+-- the texts of both sources are of the first form, and they mean a catalogue and these inputs
+pub record Means (catalogue script : Flow) (c : Catalogue) (journal : List Input) : Type 0 where
+  pub has : HasCatalogue catalogue c
+  pub text : List ℕ
+  pub gave : Gave script text
+  pub inputs : AreInputsOf c text journal
 
-abbrev pub OnReadFault : Status → Type 0 → Type 0
-OnReadFault s.ReadFault P = P
-OnReadFault _ P = Unit {0}
+-- the catalogue's is, and the script's isn't
+pub record HasNoScript (catalogue script : Flow) : Type 0 where
+  pub c : Catalogue
+  pub has : HasCatalogue catalogue c
+  pub text : List ℕ
+  pub gave : Gave script text
+  pub none : (d : Catalogue) (s : Script) → IsCatalogue has.text d → IsScript d text s → ⊥
 
-abbrev pub OnTooLong : Status → Type 0 → Type 0
-OnTooLong s.TooLong P = P
-OnTooLong _ P = Unit {0}
+-- all that is due by the inputs, as it is printed
+abbrev pub due_bytes : Catalogue → List Input → List ℕ
+due_bytes c journal = printed_due (catalog_of c) default_settings journal
 
-abbrev pub OnWriteFault : Status → Type 0 → Type 0
-OnWriteFault s.WriteFault P = P
-OnWriteFault _ P = Unit {0}
+-- the output was given exactly what is due
+pub record Ran (catalogue script out : Flow) : Type 0 where
+  pub c : Catalogue
+  pub journal : List Input
+  pub means : Means catalogue script c journal
+  pub put : Puts out.before out.after (due_bytes c journal)
 
--- a fact for every status but Ok and WriteFault
-abbrev pub UnlessWritten : Status → Type 0 → Type 0
-UnlessWritten s.Ok P = Unit {0}
-UnlessWritten s.WriteFault P = Unit {0}
-UnlessWritten _ P = P
+-- it failed, and was given some first bytes of that
+pub record RanInPart (catalogue script out : Flow) : Type 0 where
+  pub c : Catalogue
+  pub journal : List Input
+  pub means : Means catalogue script c journal
+  pub put : PutsFront out.before out.after (due_bytes c journal)
+  pub failed : HasFailed out
 
-abbrev pub IsNotUsage : Status → Type 0
-IsNotUsage s.Usage = ⊥
-IsNotUsage _ = Unit {0}
+-- something befell the catalogue's source before the script's was read, or the script's behind a catalogue of the form
+abbrev pub Befell : (Flow → Type 0) → Flow → Flow → Type 0
+Befell P catalogue script = (P catalogue × IsUntouched script) ⊎ ((c : Catalogue) × HasCatalogue catalogue c × P script)
+
+-- what the status of a run tells
+abbrev pub RunTells : Flow → Flow → Flow → Status → Type 0
+RunTells catalogue script out s.Ok = Ran catalogue script out
+RunTells catalogue script out s.Usage = ⊥
+RunTells catalogue script out s.ReadFault = Befell HasFailed catalogue script × IsUntouched out
+RunTells catalogue script out s.WriteFault = RanInPart catalogue script out
+RunTells catalogue script out s.NoMemory = IsUntouched out
+RunTells catalogue script out s.TooLong = Befell IsTooLong catalogue script × IsUntouched out
+RunTells catalogue script out s.NotBuilt = ((HasNoCatalogue catalogue × IsUntouched script) ⊎ HasNoScript catalogue script) × IsUntouched out
+
+pub record AllUntouched (catalogue script out : Flow) : Type 0 where
+  pub catalogue_is : IsUntouched catalogue
+  pub script_is : IsUntouched script
+  pub out_is : IsUntouched out
+
+-- what the program's status tells, by its words
+pub data Tells (words : List (List ℕ)) (catalogue script out : Flow) : Status → Type 0 where
+  no_command : NoCommand words → AllUntouched catalogue script out → Tells words catalogue script out s.Usage
+  -- a command that isn't built
+  not_built : (command : Command) → IsCommand words command → command ≢ Replay → AllUntouched catalogue script out → Tells words catalogue script out s.NotBuilt
+  runs : {status : Status} → IsCommand words Replay → RunTells catalogue script out status → Tells words catalogue script out status
+
+-- Both texts are known and not too long, and no source and no sink failed in the call.
+pub record IsCalm (catalogue script out : Flow) (text lines : List ℕ) : Type 0 where
+  pub catalogue_is : catalogue.before ≡ Some text
+  pub script_is : script.before ≡ Some lines
+  pub catalogue_fits : length text ≤ most_bytes
+  pub script_fits : length lines ≤ most_bytes
+  pub catalogue_holds : HasFailed catalogue → ⊥
+  pub script_holds : HasFailed script → ⊥
+  pub out_holds : HasFailed out → ⊥
+
+-- the status is this one, or memory ran out
+abbrev pub IsStatus : Status → Status → Type 0
+IsStatus status result = (result ≡ status) ⊎ (result ≡ s.NoMemory)
+
+-- the texts are of the first form
+pub record AreOfForm (text lines : List ℕ) : Type 0 where
+  pub c : Catalogue
+  pub script : Script
+  pub is_catalogue : IsCatalogue text c
+  pub is_script : IsScript c lines script
+
+-- so the status is Ok where they are, and NotBuilt where they aren't
+pub record IsComplete (text lines : List ℕ) (result : Status) : Type 0 where
+  pub built : AreOfForm text lines → IsStatus s.Ok result
+  pub unbuilt : (AreOfForm text lines → ⊥) → IsStatus s.NotBuilt result
+
+-- the line of a status on the error stream, none where the run ended well
+abbrev pub line_of : Status → List ℕ
+line_of s.Ok = []
+line_of s.Usage = codes "usage: realtime-replay replay|audit CATALOGUE SCRIPT, check CATALOGUE, gen N\n"
+line_of s.ReadFault = codes "read fault\n"
+line_of s.WriteFault = codes "write fault\n"
+line_of s.NoMemory = codes "out of memory\n"
+line_of s.TooLong = codes "too long\n"
+line_of s.NotBuilt = codes "not built\n"
+
+-- the error stream was given the bytes, or it failed and was given some first of them
+abbrev pub Said : Flow → List ℕ → Type 0
+Said err bytes = Puts err.before err.after bytes ⊎ (HasFailed err × PutsFront err.before err.after bytes)

@@ -1,10 +1,11 @@
-ghost use Rattle.std.specs.Prelude.{◌≡◌, ◌⊎◌, map, IfErr, IfOk, OnOk as OnSuccess};
-ghost use Rattle.rt_io.specs.Streams.{Rose};
+ghost use Rattle.std.specs.Prelude.{◌≡◌, ◌≢◌, map, List, ℕ, IfErr, IfOk, OnOk};
 ghost use Rattle.rt_first.specs.Output.{given};
 ghost use Rattle.rt_first.specs.Printed.{printed};
-ghost use Rattle.realtime_replay.specs.Words.{NoCommand, IsCommand};
+ghost use Rattle.realtime_replay.specs.Answers.{HasNoCatalogue, IsCalm, IsComplete, Ran, RunTells, Said, Tells, flow, line_of};
+ghost use Rattle.realtime_replay.specs.Faults as faults;
+ghost use Rattle.realtime_replay.specs.Parts.{HasOne, HasScript, LacksScript, SourceTells};
+ghost use Rattle.realtime_replay.specs.Words.{IsCommand, NoCommand};
 ghost use Rattle.realtime_replay.specs.declared.words.Command.{Command};
-ghost use Rattle.realtime_replay.specs.Answers.{FaultTells, IsTooLong, IsReadToEnd, OnOk, OnUsage, OnReadFault, OnTooLong, OnWriteFault, UnlessWritten, IsNotUsage};
 
 use crate::catalogue::read_catalogue;
 use crate::fault::RunFault;
@@ -12,7 +13,8 @@ use crate::messages::{change, join_reply, subscribed};
 use crate::printing::print_slot;
 use crate::script::read_script;
 use crate::status::{Status, status_of};
-use crate::words::{Command, command_of};
+use crate::words::command_of;
+use rt_first::laws::given_is_due;
 use rt_first::{Catalogue, Script};
 use rt_io::{Sink, Source, read_all, write_all};
 use rt_value::Bytes;
@@ -21,6 +23,30 @@ use std::thread::Threads;
 
 /// The most bytes of a source.
 const MOST_SOURCE_BYTES: usize = 67108864;
+
+/// The catalogue of the first form that a source gives.
+fn catalogue_from<S: Source>(alloc: Global, source: &mut S) -> Result<Catalogue, RunFault>
+    ensures found { IfOk result (λ catalogue. HasOne (flow (S.left source.old) (S.left source.new) (S.faults source.old) (S.faults source.new)) catalogue) }
+    ensures cause { IfErr result (SourceTells HasNoCatalogue (flow (S.left source.old) (S.left source.new) (S.faults source.old) (S.faults source.new))) }
+{
+    let text = read_all(alloc, source, MOST_SOURCE_BYTES)?;
+    let catalogue = read_catalogue(alloc, text.get())?;
+    Ok(catalogue)
+}
+
+/// The script of the first form that a source gives, over a catalogue.
+fn script_from<S: Source>(
+    alloc: Global,
+    catalogue: &Catalogue,
+    source: &mut S,
+) -> Result<Script, RunFault>
+    ensures found { IfOk result (λ script. HasScript catalogue.now (flow (S.left source.old) (S.left source.new) (S.faults source.old) (S.faults source.new)) script) }
+    ensures cause { IfErr result (SourceTells (LacksScript catalogue.now) (flow (S.left source.old) (S.left source.new) (S.faults source.old) (S.faults source.new))) }
+{
+    let text = read_all(alloc, source, MOST_SOURCE_BYTES)?;
+    let script = read_script(alloc, catalogue, text.get())?;
+    Ok(script)
+}
 
 /// What the slot is given: the reply to its join, the system's message, the change.
 fn output(alloc: Global, catalogue: &Catalogue, script: &Script) -> Result<Bytes, AllocError>
@@ -43,21 +69,69 @@ fn run<C: Source, S: Source, O: Sink>(
     script: &mut S,
     out: &mut O,
 ) -> Result<(), RunFault>
-    ensures cause { IfErr result (FaultTells
-        (Rose (C.faults catalogue.old) (C.faults catalogue.new) ⊎ Rose (S.faults script.old) (S.faults script.new))
-        (IsTooLong (C.left catalogue.old) ⊎ IsTooLong (S.left script.old))
-        (Rose (O.faults out.old) (O.faults out.new))
-        (O.held out.new ≡ O.held out.old)) }
-    ensures catalogue_ended { OnSuccess result (IsReadToEnd (C.left catalogue.old) (C.left catalogue.new)) }
-    ensures script_ended { OnSuccess result (IsReadToEnd (S.left script.old) (S.left script.new)) }
+    ensures ran { OnOk result (Ran
+        (flow (C.left catalogue.old) (C.left catalogue.new) (C.faults catalogue.old) (C.faults catalogue.new))
+        (flow (S.left script.old) (S.left script.new) (S.faults script.old) (S.faults script.new))
+        (flow (O.held out.old) (O.held out.new) (O.faults out.old) (O.faults out.new))) }
+    ensures cause { IfErr result (λ fault. RunTells
+        (flow (C.left catalogue.old) (C.left catalogue.new) (C.faults catalogue.old) (C.faults catalogue.new))
+        (flow (S.left script.old) (S.left script.new) (S.faults script.old) (S.faults script.new))
+        (flow (O.held out.old) (O.held out.new) (O.faults out.old) (O.faults out.new))
+        (faults.status_of fault)) }
 {
-    let text = read_all(alloc, catalogue, MOST_SOURCE_BYTES)?;
-    let catalogue = read_catalogue(alloc, text.get())?;
-    let lines = read_all(alloc, script, MOST_SOURCE_BYTES)?;
-    let script = read_script(alloc, &catalogue, lines.get())?;
-    let bytes = output(alloc, &catalogue, &script)?;
+    let form = catalogue_from(alloc, catalogue)?;
+    let steps = script_from(alloc, &form, script)?;
+    let bytes = output(alloc, &form, &steps)?;
+    given_is_due();
     write_all(out, bytes.get())?;
     Ok(())
+}
+
+/// The status of a run.
+fn status_after<C: Source, S: Source, O: Sink>(
+    alloc: Global,
+    catalogue: &mut C,
+    script: &mut S,
+    out: &mut O,
+) -> Status
+    ensures { RunTells
+        (flow (C.left catalogue.old) (C.left catalogue.new) (C.faults catalogue.old) (C.faults catalogue.new))
+        (flow (S.left script.old) (S.left script.new) (S.faults script.old) (S.faults script.new))
+        (flow (O.held out.old) (O.held out.new) (O.faults out.old) (O.faults out.new))
+        result }
+{
+    match run(alloc, catalogue, script, out) {
+        Ok(()) => Status::Ok,
+        Err(fault) => status_of(fault),
+    }
+}
+
+/// Does what the words say.
+fn done<C: Source, S: Source, O: Sink>(
+    alloc: Global,
+    words: &[&str],
+    catalogue: &mut C,
+    script: &mut S,
+    out: &mut O,
+) -> Status
+    ensures { Tells (map (λ w. w.now) words.now)
+        (flow (C.left catalogue.old) (C.left catalogue.new) (C.faults catalogue.old) (C.faults catalogue.new))
+        (flow (S.left script.old) (S.left script.new) (S.faults script.old) (S.faults script.new))
+        (flow (O.held out.old) (O.held out.new) (O.faults out.old) (O.faults out.new))
+        result }
+{
+    match command_of(words) {
+        None => Status::Usage,
+        Some(command) if command.is_built() => status_after(alloc, catalogue, script, out),
+        Some(_) => Status::NotBuilt,
+    }
+}
+
+/// Says a status on the error stream. That it can't be said changes nothing.
+fn say<E: Sink>(err: &mut E, status: Status)
+    ensures { Said (flow (E.held err.old) (E.held err.new) (E.faults err.old) (E.faults err.new)) (line_of status) }
+{
+    let _ = write_all(err, status.line().as_bytes());
 }
 
 /// Does what the words say: `replay CATALOGUE SCRIPT` runs a script over a catalogue and writes to `out` what each slot was
@@ -76,25 +150,23 @@ pub fn replay<R: Threads + Sync, C: Source, S: Source, O: Sink, E: Sink>(
     out: &mut O,
     err: &mut E,
 ) -> Status
-    ensures usage { OnUsage result (NoCommand (map (λ w. w.now) words.now)) }
+    ensures answer { Tells (map (λ w. w.now) words.now)
+        (flow (C.left catalogue.old) (C.left catalogue.new) (C.faults catalogue.old) (C.faults catalogue.new))
+        (flow (S.left script.old) (S.left script.new) (S.faults script.old) (S.faults script.new))
+        (flow (O.held out.old) (O.held out.new) (O.faults out.old) (O.faults out.new))
+        result }
     ensures others { NoCommand (map (λ w. w.now) words.now) → result ≡ Status.Usage }
-    ensures command { (command : Command) → IsCommand (map (λ w. w.now) words.now) command → IsNotUsage result }
-    ensures catalogue_ended { OnOk result (IsReadToEnd (C.left catalogue.old) (C.left catalogue.new)) }
-    ensures script_ended { OnOk result (IsReadToEnd (S.left script.old) (S.left script.new)) }
-    ensures read_fault { OnReadFault result
-        (Rose (C.faults catalogue.old) (C.faults catalogue.new) ⊎ Rose (S.faults script.old) (S.faults script.new)) }
-    ensures too_long { OnTooLong result (IsTooLong (C.left catalogue.old) ⊎ IsTooLong (S.left script.old)) }
-    ensures write_fault { OnWriteFault result (Rose (O.faults out.old) (O.faults out.new)) }
-    ensures untouched { UnlessWritten result (O.held out.new ≡ O.held out.old) }
+    ensures unbuilt { (command : Command) → IsCommand (map (λ w. w.now) words.now) command → command ≢ Command.Replay → result ≡ Status.NotBuilt }
+    ensures complete { (text lines : List ℕ) → IsCommand (map (λ w. w.now) words.now) Command.Replay
+        → IsCalm
+        (flow (C.left catalogue.old) (C.left catalogue.new) (C.faults catalogue.old) (C.faults catalogue.new))
+        (flow (S.left script.old) (S.left script.new) (S.faults script.old) (S.faults script.new))
+        (flow (O.held out.old) (O.held out.new) (O.faults out.old) (O.faults out.new))
+        text lines
+        → IsComplete text lines result }
+    ensures said { Said (flow (E.held err.old) (E.held err.new) (E.faults err.old) (E.faults err.new)) (line_of result) }
 {
-    let status = match command_of(words) {
-        None => Status::Usage,
-        Some(Command::Replay) => match run(alloc, catalogue, script, out) {
-            Ok(()) => Status::Ok,
-            Err(fault) => status_of(fault),
-        },
-        Some(_) => Status::NotBuilt,
-    };
-    let _ = write_all(err, status.line().as_bytes());
+    let status = done(alloc, words, catalogue, script, out);
+    say(err, status);
     status
 }

@@ -1,4 +1,5 @@
 ghost use Rattle.std.specs.Prelude.{◌≡◌};
+ghost use Rattle.realtime_replay.specs.Answers.{line_of};
 ghost use Rattle.realtime_replay.specs.Faults.{status_of};
 
 use crate::fault::RunFault;
@@ -37,7 +38,9 @@ pub fn status_of(fault: RunFault) -> Status
 
 impl Status {
     /// The line that says it on the error stream, none where the run ended well.
-    pub fn line(self) -> &'static str {
+    pub fn line(self) -> &'static str
+        ensures { result.now ≡ line_of self }
+    {
         match self {
             Status::Ok => "",
             Status::Usage => {

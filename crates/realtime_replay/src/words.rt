@@ -1,4 +1,4 @@
-ghost use Rattle.std.specs.Prelude.{◌≡◌, map, MatchOption, List, ℕ, false, ◌∷◌, []};
+ghost use Rattle.std.specs.Prelude.{◌≡◌, ◌↔◌, map, IsTrue, MatchOption, List, ℕ, false, ◌∷◌, []};
 ghost use Rattle.realtime_replay.specs.Words.{IsCommand, NoCommand, is_option};
 
 use crate::numbers::number_of;
@@ -14,6 +14,15 @@ pub enum Command {
     Check,
     /// `gen N`: the digest of a generated run.
     Generate(u32),
+}
+
+impl Command {
+    /// Whether it is built.
+    pub fn is_built(self) -> bool
+        ensures { IsTrue result ↔ (self ≡ Command.Replay) }
+    {
+        matches!(self, Command::Replay)
+    }
 }
 
 /// An option begins with `-` and is longer than that; the program has none.
