@@ -1,5 +1,5 @@
 -- What the first form means in the words of the whole: its catalogue, its inputs, and that what is due by them is what the slot is given.
-use Rattle.std.specs.Prelude.{◌≡◌, ℕ, ◌≤◌, false, List, [], ◌∷◌, map, codes, Option, Some, None, Ok, tt}
+use Rattle.std.specs.Prelude.{◌≡◌, ℕ, ◌≤◌, false, List, [], ◌∷◌, map, codes, Option, Some, None, Ok}
 use Rattle.std.proofs.Common.{refl, lit<}
 use Rattle.rt_value.specs.declared.claims.Claims.{Claims}
 use Rattle.rt_value.specs.declared.value.Kind.{Kind}
@@ -9,8 +9,8 @@ use Rattle.rt_wal.specs.declared.records.Record.{Record}
 use Rattle.rt_wal.specs.Records.{IsRecordText}
 use Rattle.rt_phx.specs.declared.message.Version.TheVariants.{V1}
 use Rattle.rt_catalog.specs.declared.catalog.Catalog.{Catalog}
-use Rattle.rt_catalog.specs.declared.catalog.Table as whole
-use Rattle.rt_catalog.specs.declared.catalog.Column as whole
+use Rattle.rt_catalog.specs.declared.catalog.Table.{Table as CatalogTable}
+use Rattle.rt_catalog.specs.declared.catalog.Column.{Column as CatalogColumn}
 use Rattle.rt_catalog.specs.declared.catalog.Role.{Role}
 use Rattle.rt_catalog.specs.declared.catalog.Grant.{Grant}
 use Rattle.rt_change.specs.declared.change.Change.{Change}
@@ -36,10 +36,10 @@ abbrev pub kind_of : ColumnType → Kind
 kind_of type_.Int4 = kind.Int4
 kind_of type_.Text = kind.Text
 
-abbrev pub column_of : Column → whole.Column
+abbrev pub column_of : Column → CatalogColumn
 column_of c = record { name = c.name; kind = kind_of c.column_type; shown = shown_type c.column_type }
 
-abbrev pub table_of : Table → whole.Table
+abbrev pub table_of : Table → CatalogTable
 table_of t = record { schema = codes "public"; name = t.name; columns = map column_of t.columns; key = t.key ∷ [] }
 
 -- no row security
