@@ -7,7 +7,6 @@ use Rattle.rt_value.specs.Choice.{◌>>=◌, some_if}
 use Rattle.rt_json.specs.declared.tree.Json.{Json}
 use Rattle.rt_wal.specs.declared.records.Record.{Record}
 use Rattle.rt_wal.specs.declared.records.Field.{Field}
-use Rattle.rt_catalog.specs.declared.catalog.Catalog.{Catalog}
 use Rattle.rt_catalog.specs.declared.catalog.Table.{Table as CatalogTable}
 use Rattle.rt_catalog.specs.declared.catalog.Column.{Column as CatalogColumn}
 use Rattle.rt_catalog.specs.Access.{table_named}
@@ -25,15 +24,15 @@ use Rattle.rt_first.proofs.Form.{key_column, catalog_with, whole_table}
 use Rattle.rt_first.proofs.Inserts.{fields_with, entry_with}
 use Rattle.rt_first.proofs.Values.{Stands}
 
-module _ (name : List ℕ) (first second : Column) (is_key : Bool) (role : List ℕ) (differ : first.name ≢ second.name) where
-  abbrev cat : Catalog
-  cat = catalog_with name first second is_key role
+module _ (name : List ℕ) (first second : Column) (is_key : Bool) (role : List ℕ) where
+  pub table_found : table_named (catalog_with name first second is_key role) (codes "public") name ≡ Some 0
+  table_found =
+      let hit : ℕ × CatalogTable = (0, whole_table name first second is_key) in
+      ap (λ (b : Bool). option_map (λ (t : ℕ × CatalogTable). t.0) (cond b (Some hit) None)) (same_name name)
 
+module _ (name : List ℕ) (first second : Column) (is_key : Bool) (role : List ℕ) (differ : first.name ≢ second.name) where
   abbrev table : CatalogTable
   table = whole_table name first second is_key
-
-  pub table_found : table_named cat (codes "public") name ≡ Some 0
-  table_found = let hit : ℕ × CatalogTable = (0, table) in ap (λ (b : Bool). option_map (λ (t : ℕ × CatalogTable). t.0) (cond b (Some hit) None)) (same_name name)
 
   module _ (one two : Json) (size : ℕ) (of_one : Stands (kind_of first.column_type) one) (of_two : Stands (kind_of second.column_type) two) where
     abbrev entry : Record
@@ -135,7 +134,7 @@ module _ (name : List ℕ) (first second : Column) (is_key : Bool) (role : List 
   unfolding change_of
   bound_is =
       let made : Result Bound ChangeFault = Ok (bound.Change change_is) in
-      ap (λ (o : Option ℕ). bound_at (catalog_with name first second is_key role) record_is o (Some Insert)) (table_found name first second is_key role differ)
+      ap (λ (o : Option ℕ). bound_at (catalog_with name first second is_key role) record_is o (Some Insert)) (table_found name first second is_key role)
       ∙ ap (λ (b : Bool). let r : Made = or_fault KeyDiffers (some_if (not b) record_is) >> λ _. fields_fit table_is record_is.columns >> λ _. key_given Insert table_is new_cells >> λ _. made in r) (keys_agree name first second role differ one two size is_key)
       ∙ ap (λ (f : Result Bool ChangeFault). let r : Made = f >> λ _. key_given Insert table_is new_cells >> λ _. made in r) (all_fit name first second is_key role differ one two size of_one of_two)
       ∙ ap (λ (f : Result Bool ChangeFault). let r : Made = f >> λ _. made in r) (key_there name first second role differ one two size is_key of_one of_two)

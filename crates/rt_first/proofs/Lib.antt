@@ -1,5 +1,7 @@
+mod Binding
 mod Binds
 mod Bytes
+mod Channels
 mod Claims
 mod Form
 mod Inserts
