@@ -5,6 +5,7 @@ mod Channels
 mod Claims
 mod Form
 mod Inserts
+mod Joins
 mod Numbers
 mod Opens
 mod Values
