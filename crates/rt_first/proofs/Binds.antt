@@ -30,14 +30,11 @@ module _ (name : List ℕ) (first second : Column) (is_key : Bool) (role : List 
       let hit : ℕ × CatalogTable = (0, whole_table name first second is_key) in
       ap (λ (b : Bool). option_map (λ (t : ℕ × CatalogTable). t.0) (cond b (Some hit) None)) (same_name name)
 
-module _ (name : List ℕ) (first second : Column) (is_key : Bool) (role : List ℕ) (differ : first.name ≢ second.name) where
+module _ (name : List ℕ) (first second : Column) (is_key : Bool) (differ : first.name ≢ second.name) where
   abbrev table : CatalogTable
   table = whole_table name first second is_key
 
-  module _ (one two : Json) (size : ℕ) (of_one : Stands (kind_of first.column_type) one) (of_two : Stands (kind_of second.column_type) two) where
-    abbrev entry : Record
-    entry = entry_with name first.name second.name (key_column is_key first second).name one two size
-
+  module _ (one two : Json) (of_one : Stands (kind_of first.column_type) one) (of_two : Stands (kind_of second.column_type) two) where
     abbrev fields : List Field
     fields = fields_with first.name second.name one two
 
@@ -91,15 +88,14 @@ module _ (name : List ℕ) (first second : Column) (is_key : Bool) (role : List 
     abbrev cells : List (Option Value)
     cells = cells_for table fields
 
-  -- the record names the table's key
-  module _ (key : List ℕ) where
-    pub key_same : not ((bytes_eq key key || false) && true) ≡ false
-    key_same = ap (λ (b : Bool). not ((b || false) && true)) (same_name key)
+-- the record names the table's key
+key_same : (key : List ℕ) → not ((bytes_eq key key || false) && true) ≡ false
+key_same key = ap (λ (b : Bool). not ((b || false) && true)) (same_name key)
 
-module _ (name : List ℕ) (first second : Column) (role : List ℕ) (differ : first.name ≢ second.name) (one two : Json) (size : ℕ) where
-  pub keys_agree : (is_key : Bool) → keys_differ Insert (whole_table name first second is_key) (entry_with name first.name second.name (key_column is_key first second).name one two size) ≡ false
-  keys_agree true = key_same name first second true role differ second.name
-  keys_agree false = key_same name first second false role differ first.name
+module _ (name : List ℕ) (first second : Column) (differ : first.name ≢ second.name) (one two : Json) where
+  keys_agree : (size : ℕ) (is_key : Bool) → keys_differ Insert (whole_table name first second is_key) (entry_with name first.name second.name (key_column is_key first second).name one two size) ≡ false
+  keys_agree size true = key_same second.name
+  keys_agree size false = key_same first.name
 
   abbrev named_without : CatalogTable → ℕ → Option Value → Result Bool ChangeFault
   named_without t n g = no_name (cond (elim g [ None ↦ true | Some v ↦ false ]) (Some n) None >>= name_at t)
@@ -107,14 +103,13 @@ module _ (name : List ℕ) (first second : Column) (role : List ℕ) (differ : f
   pub key_there : (is_key : Bool) → Stands (kind_of first.column_type) one → Stands (kind_of second.column_type) two
       → key_given Insert (whole_table name first second is_key) (cells_for (whole_table name first second is_key) (fields_with first.name second.name one two)) ≡ Ok true
   key_there true a b =
-      ap (λ (c : Option Value). named_without (whole_table name first second true) 1 (given c)) (second_cell name first second true role differ one two size a b)
+      ap (λ (c : Option Value). named_without (whole_table name first second true) 1 (given c)) (second_cell name first second true differ one two a b)
       ∙ ap (named_without (whole_table name first second true) 1) b.some
   key_there false a b =
-      ap (λ (c : Option Value). named_without (whole_table name first second false) 0 (given c)) (first_cell name first second false role differ one two size a b)
+      ap (λ (c : Option Value). named_without (whole_table name first second false) 0 (given c)) (first_cell name first second false differ one two a b)
       ∙ ap (named_without (whole_table name first second false) 0) a.some
 
-module _ (name : List ℕ) (first second : Column) (is_key : Bool) (role : List ℕ) (differ : first.name ≢ second.name) (one two : Json) (size : ℕ)
-    (of_one : Stands (kind_of first.column_type) one) (of_two : Stands (kind_of second.column_type) two) where
+module _ (name : List ℕ) (first second : Column) (is_key : Bool) (one two : Json) (size : ℕ) where
   abbrev record_is : Record
   record_is = entry_with name first.name second.name (key_column is_key first second).name one two size
 
@@ -127,14 +122,17 @@ module _ (name : List ℕ) (first second : Column) (is_key : Bool) (role : List 
   abbrev pub change_is : Change
   change_is = change_with 0 table_is record_is Insert new_cells (cells_for table_is [])
 
-  abbrev Made : Type 0
-  Made = Result Bound ChangeFault
+  module _ (role : List ℕ) (differ : first.name ≢ second.name) (of_one : Stands (kind_of first.column_type) one) (of_two : Stands (kind_of second.column_type) two) where
+    abbrev Made : Type 0
+    Made = Result Bound ChangeFault
 
-  pub bound_is : change_of (catalog_with name first second is_key role) record_is ≡ Ok (bound.Change change_is)
-  unfolding change_of
-  bound_is =
-      let made : Result Bound ChangeFault = Ok (bound.Change change_is) in
-      ap (λ (o : Option ℕ). bound_at (catalog_with name first second is_key role) record_is o (Some Insert)) (table_found name first second is_key role)
-      ∙ ap (λ (b : Bool). let r : Made = or_fault KeyDiffers (some_if (not b) record_is) >> λ _. fields_fit table_is record_is.columns >> λ _. key_given Insert table_is new_cells >> λ _. made in r) (keys_agree name first second role differ one two size is_key)
-      ∙ ap (λ (f : Result Bool ChangeFault). let r : Made = f >> λ _. key_given Insert table_is new_cells >> λ _. made in r) (all_fit name first second is_key role differ one two size of_one of_two)
-      ∙ ap (λ (f : Result Bool ChangeFault). let r : Made = f >> λ _. made in r) (key_there name first second role differ one two size is_key of_one of_two)
+    abbrev made : Made
+    made = Ok (bound.Change change_is)
+
+    pub bound_is : change_of (catalog_with name first second is_key role) record_is ≡ Ok (bound.Change change_is)
+    unfolding change_of
+    bound_is =
+        ap (λ (o : Option ℕ). bound_at (catalog_with name first second is_key role) record_is o (Some Insert)) (table_found name first second is_key role)
+        ∙ ap (λ (b : Bool). let r : Made = or_fault KeyDiffers (some_if (not b) record_is) >> λ _. fields_fit table_is record_is.columns >> λ _. key_given Insert table_is new_cells >> λ _. made in r) (keys_agree name first second differ one two size is_key)
+        ∙ ap (λ (f : Result Bool ChangeFault). let r : Made = f >> λ _. key_given Insert table_is new_cells >> λ _. made in r) (all_fit name first second is_key differ one two of_one of_two)
+        ∙ ap (λ (f : Result Bool ChangeFault). let r : Made = f >> λ _. made in r) (key_there name first second differ one two is_key of_one of_two)

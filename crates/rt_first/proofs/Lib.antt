@@ -8,4 +8,5 @@ mod Inserts
 mod Joins
 mod Numbers
 mod Opens
+mod Shapes
 mod Values
