@@ -17,3 +17,6 @@ other_name name other ne = by (bytes_eq name other) (bytes_eq-Decides name other
 
 pub same_number : (n : ℕ) → (n == n) ≡ true
 same_number n = elim (eqb_tells n n) [ inl t ↦ t.0 | inr t ↦ absurd (t.1 refl) ]
+
+pub other_number : (n m : ℕ) → n ≢ m → (n == m) ≡ false
+other_number n m ne = elim (eqb_tells n m) [ inl t ↦ absurd (ne t.1) | inr t ↦ t.0 ]

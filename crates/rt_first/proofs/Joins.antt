@@ -53,7 +53,7 @@ module _ (name : List ℕ) (first second : Column) (is_key : Bool) (role : List 
 
   module _ (no_star : bytes_eq name (codes "*") ≡ false) (on : is_channel_topic topic ≡ true)
       (short : length frame ≤ frame_limit) (read : IsJson frame (join_tree topic reference name)) (within : slot < 256) where
-    frame_joins : (tables : List (List Row)) → doings cat s (now_of before) tables (Frame slot frame) ≡ joined_parts
+    pub frame_joins : (tables : List (List Row)) → doings cat s (now_of before) tables (Frame slot frame) ≡ joined_parts
     unfolding doings now_of members_at joined departed ids_given
     frame_joins tables =
         let now = now_of before in

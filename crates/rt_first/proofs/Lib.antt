@@ -3,10 +3,12 @@ mod Binds
 mod Bytes
 mod Channels
 mod Claims
+mod Due
 mod Form
 mod Inserts
 mod Joins
 mod Numbers
 mod Opens
+mod Polls
 mod Shapes
 mod Values

@@ -45,12 +45,12 @@ module _ (slot : ℕ) (held : Claims) where
   still_open = ap (λ (b : Bool). if b then Some (opening_by held) else None) (same_number slot)
 
   module _ (c : Catalog) (s : Settings) (within : slot < 256) where
-    opened : (tables : List (List Row)) → doings c s (now_of []) tables (Opened slot V1 held) ≡ Opens slot (opening_by held) ∷ []
+    pub opened_alone : (tables : List (List Row)) → doings c s (now_of []) tables (Opened slot V1 held) ≡ Opens slot (opening_by held) ∷ []
     unfolding doings now_of
-    opened tables = ap (λ (o : Option Opening). end_if_open (now_of []) slot end_name.Replaced o ++ Opens slot (opening_by held) ∷ []) (opening_found [] slot within)
+    opened_alone tables = ap (λ (o : Option Opening). end_if_open (now_of []) slot end_name.Replaced o ++ Opens slot (opening_by held) ∷ []) (opening_found [] slot within)
 
     pub first_story_is : story c s (Opened slot V1 held ∷ []) ≡ first_story
     unfolding story
     first_story_is =
         let line : List Part → Line = λ parts. record { input = Opened slot V1 held; parts = parts } in
-        ap (λ (parts : List Part). line parts ∷ []) (opened _)
+        ap (λ (parts : List Part). line parts ∷ []) (opened_alone _)

@@ -1,37 +1,26 @@
--- The data of the first form's change, and that its subscription gets it.
+-- The data of the first form's change.
 use Rattle.std.proofs.Common.{◌≡◌, ℕ, Bool, true, false, ◌||◌, not, List, [], ◌∷◌, length, Option, Some, None, refl, ap, ◌∙◌}
 use Rattle.std.specs.Prelude.{◌≢◌, codes, nat_lt, nat_le, slice_get, unwrap_or, if◌then◌else◌}
 use Rattle.std.specs.List.{filter_map}
-use Rattle.rt_value.specs.declared.row.Row.{Row}
 use Rattle.rt_value.specs.Choice.{◌>>=◌, some_if}
 use Rattle.rt_json.specs.declared.tree.Json.{Json, Null, Text}
 use Rattle.rt_json.specs.declared.tree.Json.TheVariants as j
 use Rattle.rt_json.specs.declared.tree.named.Member.{Member}
 use Rattle.rt_json.specs.Trees.{field}
 use Rattle.rt_json.specs.Written.{written}
-use Rattle.rt_filter.specs.declared.subscription.Subscription.{Subscription}
 use Rattle.rt_catalog.specs.declared.catalog.Catalog.{Catalog}
 use Rattle.rt_catalog.specs.declared.catalog.Column.{Column as CatalogColumn}
-use Rattle.rt_registry.specs.Bindings.{subscription_of}
 use Rattle.rt_change.specs.declared.change.Change.{Change}
-use Rattle.rt_change.specs.declared.decision.Verdict.TheVariants.{Deliver}
 use Rattle.rt_change.specs.Binding.{tree_for}
-use Rattle.rt_change.specs.Verdicts.{verdict_of}
 use Rattle.rt_change.specs.Shape.{error_list, field_limit, shape_of}
 use Rattle.rt_first.specs.First.{kind_of, column_of}
 use Rattle.rt_first.specs.Messages.{column_tree, inserted}
 use Rattle.rt_first.specs.Trees.{named}
 use Rattle.rt_first.specs.declared.catalogue.Column.{Column}
-use Rattle.rt_first.proofs.Binding.{subscribed_with}
 use Rattle.rt_first.proofs.Binds.{change_is, first_tree, second_tree}
-use Rattle.rt_first.proofs.Claims.{held_by}
 use Rattle.rt_first.proofs.Form.{catalog_with, table_with}
 use Rattle.rt_first.proofs.Inserts.{fields_with}
 use Rattle.rt_first.proofs.Values.{Stands}
-
--- the one subscription
-abbrev pub subscription : List ℕ → List ℕ → ℕ → Subscription
-subscription name role slot = subscription_of 1 slot 0 (held_by role) (1, subscribed_with name)
 
 module _ (name : List ℕ) (first second : Column) (is_key : Bool) (role : List ℕ) (one two : Json) (size : ℕ) where
   abbrev cat : Catalog
@@ -39,10 +28,6 @@ module _ (name : List ℕ) (first second : Column) (is_key : Bool) (role : List 
 
   abbrev change : Change
   change = change_is name first second is_key one two size
-
-  pub delivered : (tables : ℕ → List Row) (slot : ℕ) → verdict_of cat tables (subscription name role slot) change ≡ Deliver
-  unfolding verdict_of
-  delivered tables slot = refl
 
   abbrev columns : List (ℕ × CatalogColumn)
   columns = (0, column_of first) ∷ (1, column_of second) ∷ []
