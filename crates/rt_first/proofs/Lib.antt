@@ -5,6 +5,7 @@ mod Channels
 mod Claims
 mod Due
 mod Form
+mod Given
 mod Inserts
 mod Joins
 mod Numbers
