@@ -1,11 +1,10 @@
 -- The channel that the join of the first form makes.
-use Rattle.std.proofs.Common.{◌≡◌, ℕ, ◌+◌, ◌<◌, ◌≤◌, Bool, true, false, ◌&&◌, not, cond, List, [], ◌∷◌, ◌++◌, length, Option, Some, None, Result, Ok, Err, refl, sym, ap, subst, ◌∙◌, arith}
-use Rattle.std.specs.Prelude.{codes, nat_lt, nat_eq, drop, option_map}
-use Rattle.std.specs.List.{starts_with}
+use Rattle.std.proofs.Common.{◌≡◌, ℕ, ◌+◌, ◌<◌, ◌≤◌, Bool, true, false, List, [], ◌∷◌, ◌++◌, length, Option, Some, None, Result, Ok, refl, ap, ◌∙◌, arith}
+use Rattle.std.specs.Prelude.{codes, nat_lt, drop}
 use Rattle.std.specs.Fmt.{decimal}
 use Rattle.std.specs.Str.{bytes_eq}
 use Rattle.std.proofs.lemmas.Bool.{lt-ltb}
-use Rattle.rt_value.specs.Choice.{◌>>=◌, some_if}
+use Rattle.rt_value.specs.Choice.{◌>>=◌}
 use Rattle.rt_json.specs.Computes.{json_computes}
 use Rattle.rt_json.specs.Grammar.{IsJson}
 use Rattle.rt_json.specs.declared.tree.Json.{Json, Null, Text}
@@ -17,20 +16,16 @@ use Rattle.rt_phx.specs.Joins.{Asked, Config, config_of}
 use Rattle.rt_phx.specs.Asks.{is_channel_topic, topic_prefix}
 use Rattle.rt_phx.proofs.Frames.{in_limit}
 use Rattle.rt_catalog.specs.declared.catalog.Catalog.{Catalog}
-use Rattle.rt_catalog.specs.Access.{role_named}
-use Rattle.rt_registry.specs.declared.binding.Binding.{Binding}
 use Rattle.rt_registry.specs.declared.binding.Subscribed.{Subscribed}
 use Rattle.rt_registry.specs.declared.fault.RegistryFault.{RegistryFault}
 use Rattle.rt_registry.specs.declared.fault.RegistryFault.TheVariants.{UnknownRole}
 use Rattle.rt_registry.specs.Bindings.{or_err, bindings_for}
 use Rattle.rt_entry.specs.declared.input.Settings.{Settings}
-use Rattle.rt_entry.specs.declared.story.Opening.{Opening}
 use Rattle.rt_entry.specs.declared.story.Channel.{Channel}
 use Rattle.rt_entry.specs.Story.{Now}
 use Rattle.rt_entry.specs.Joining.{Checked, ◌>>◌, demand, told_by, registry_text, channel_limit, channel_of_join}
 use Rattle.rt_first.specs.Script.{join_tree, payload_tree}
 use Rattle.rt_first.specs.declared.catalogue.Column.{Column}
-use Rattle.rt_first.proofs.Bytes.{same_name}
 use Rattle.rt_first.proofs.Binding.{binding_with, subscribed_with, role_found, bindings_found}
 use Rattle.rt_first.proofs.Claims.{held_by}
 use Rattle.rt_first.proofs.Form.{catalog_with}
@@ -62,7 +57,6 @@ config_with name =
 config_found : (name : List ℕ) → config_of (payload_tree name) ≡ Some (config_with name)
 unfolding json_computes config_of
 config_found name = refl
-
 
 abbrev pub channel_with : Now → ℕ → List ℕ → List ℕ → List ℕ → List ℕ → Channel
 channel_with now slot topic reference name role =

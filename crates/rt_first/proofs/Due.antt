@@ -1,7 +1,7 @@
 -- What is printed of all that is due, where one slot alone is told anything.
-use Rattle.std.proofs.Common.{◌≡◌, ◌≢◌, ℕ, zero, suc, ◌+◌, ◌<◌, ◌≤◌, Bool, true, false, List, [], ◌∷◌, ◌++◌, map, refl, sym, ap, subst, ◌∙◌, arith, append-nil, inl, inr}
-use Rattle.std.specs.Prelude.{◌==◌, flat_map}
-use Rattle.std.specs.List.{range_with_len, filter_map}
+use Rattle.std.proofs.Common.{◌≡◌, ◌≢◌, ℕ, zero, suc, ◌+◌, ◌<◌, ◌≤◌, List, [], ◌∷◌, ◌++◌, refl, sym, ap, ◌∙◌, arith, append-nil, inl, inr}
+use Rattle.std.specs.Prelude.{flat_map}
+use Rattle.std.specs.List.{range_with_len}
 use Rattle.std.proofs.lemmas.Bool.Decides.{eqb_tells}
 use Rattle.rt_phx.specs.declared.message.Message.{Message}
 use Rattle.rt_phx.specs.declared.message.Version.TheVariants.{V1}
@@ -13,8 +13,8 @@ use Rattle.rt_entry.specs.declared.answer.Answer.TheVariants.{Opened as opened, 
 use Rattle.rt_entry.specs.declared.answer.Item.{Item}
 use Rattle.rt_entry.specs.declared.answer.Item.TheVariants as item
 use Rattle.rt_entry.specs.Story.{every_slot}
-use Rattle.rt_entry.specs.Answers.{Answers, told, spell, items_for, all_answers}
-use Rattle.rt_script.specs.Running.{item_line, due_lines, printed_due}
+use Rattle.rt_entry.specs.Answers.{Answers, told, items_for, all_answers}
+use Rattle.rt_script.specs.Running.{item_line, printed_due}
 use Rattle.rt_first.proofs.Bytes.{same_number, other_number}
 
 -- nothing of other numbers
@@ -28,9 +28,9 @@ flat_one : {A : Type 0} (f : ℕ → List A) (k n slot : ℕ) → ((i : ℕ) →
 flat_one f k zero slot none le lt = absurd (omega arith)
 flat_one {A} f k (suc n) slot none le lt = elim (eqb_tells k slot) [
   | inl t ↦ let beyond : slot < k + 1 = let e = t.1 in omega arith in
-            ap (λ (xs : List A). f k ++ xs) (flat_none f (k + 1) n slot none beyond) ∙ append-nil (f k) ∙ ap f t.1
+      ap (λ (xs : List A). f k ++ xs) (flat_none f (k + 1) n slot none beyond) ∙ append-nil (f k) ∙ ap f t.1
   | inr t ↦ let ne = t.1 in
-            ap (λ (xs : List A). xs ++ flat_map f (range_with_len (k + 1) n)) (none k ne) ∙ flat_one f (k + 1) n slot none (omega arith) (omega arith)
+      ap (λ (xs : List A). xs ++ flat_map f (range_with_len (k + 1) n)) (none k ne) ∙ flat_one f (k + 1) n slot none (omega arith) (omega arith)
 ]
 
 -- an opening in version 1, and three messages

@@ -1,19 +1,14 @@
 -- What is due by a script of the first form is what its slot is given.
-use Rattle.std.proofs.Common.{◌≡◌, ◌≢◌, ℕ, ◌<◌, ◌≤◌, Bool, true, false, List, [], ◌∷◌, ◌++◌, length, Option, Some, refl, sym, ap, ap₂, subst, ◌∙◌, arith}
-use Rattle.std.specs.Prelude.{codes, nat_lt, slice_get, IsTrue}
+use Rattle.std.proofs.Common.{◌≡◌, ◌≢◌, ℕ, ◌<◌, ◌≤◌, Bool, true, false, List, [], ◌∷◌, ◌++◌, length, refl, sym, arith}
+use Rattle.std.specs.Prelude.{codes, nat_lt}
 use Rattle.std.specs.Str.{bytes_eq}
 use Rattle.std.proofs.lemmas.Bool.Decides.{nat_tests}
-use Rattle.rt_sql.specs.Piece.{begins_word}
 use Rattle.rt_json.specs.Grammar.{IsJson}
 use Rattle.rt_json.specs.declared.tree.Json.{Json}
-use Rattle.rt_json.specs.declared.tree.Json.TheVariants as j
 use Rattle.rt_entry.specs.declared.input.Input.{Input}
 use Rattle.rt_script.specs.Reading.{default_settings}
-use Rattle.rt_first.specs.First.{kind_of, IsDue, GivenIsDue}
-use Rattle.rt_first.specs.Lexing.{is_name}
-use Rattle.rt_first.specs.Script.{IsClaims, IsRow, IsRowLine, AreSaid, insert_tree, join_tree, fits, text_limit}
-use Rattle.rt_first.specs.Statements.{AreStatements, key_place}
-use Rattle.rt_first.specs.declared.catalogue.Catalogue.{Catalogue}
+use Rattle.rt_first.specs.First.{kind_of, IsDue}
+use Rattle.rt_first.specs.Script.{IsClaims, join_tree, fits, text_limit}
 use Rattle.rt_first.specs.declared.catalogue.Column.{Column}
 use Rattle.rt_first.specs.declared.script.Script.{Script}
 use Rattle.rt_first.proofs.Binds.{change_is, bound_is}
@@ -30,14 +25,14 @@ module _ (name : List ℕ) (first second : Column) (is_key : Bool) (role : List 
   abbrev topic : List ℕ
   topic = codes "realtime:" ++ channel
 
-  abbrev script_with : Script
+  abbrev pub script_with : Script
   script_with = record { slot = slot; join = record { topic = topic; channel = channel; reference = reference }; row = one ∷ two ∷ [] }
 
   abbrev key_name : List ℕ
   key_name = (key_column is_key first second).name
 
   -- the texts, by the trees that they are
-  record AreTexts (claims frame line : List ℕ) : Type 0 where
+  pub record AreTexts (claims frame line : List ℕ) : Type 0 where
     pub claimed : IsClaims role claims
     pub short : length frame ≤ text_limit
     pub joined : IsJson frame (join_tree topic reference name)
@@ -63,7 +58,7 @@ module _ (name : List ℕ) (first second : Column) (is_key : Bool) (role : List 
     abbrev inputs : List Input
     inputs = journal name first second is_key role default_settings slot topic reference frame one two (length line) differ of_one of_two small
 
-    due_by_texts : IsDue (catalogue_with name first second is_key role) slot claims frame line script_with
+    pub due_by_texts : IsDue (catalogue_with name first second is_key role) slot claims frame line script_with
     due_by_texts = record {
       journal = inputs;
       inputs = record {

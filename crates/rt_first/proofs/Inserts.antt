@@ -1,5 +1,5 @@
 -- The record of an insert, by its tree.
-use Rattle.std.proofs.Common.{◌≡◌, ℕ, Bool, true, false, ◌&&◌, ◌||◌, not, List, [], ◌∷◌, length, Option, Some, None, refl, sym, ap, subst, ◌∙◌}
+use Rattle.std.proofs.Common.{◌≡◌, ℕ, Bool, true, false, ◌&&◌, ◌||◌, not, List, [], ◌∷◌, length, Option, Some, None, refl, ap, subst}
 use Rattle.std.specs.Prelude.{codes, if◌then◌else◌}
 use Rattle.std.specs.List.{AllByRecursion}
 use Rattle.std.specs.Str.{bytes_eq}
@@ -15,9 +15,8 @@ use Rattle.rt_wal.specs.declared.records.Action.TheVariants as action
 use Rattle.rt_wal.specs.Shapes.{◌>>=◌, each, field_of, named_items, fields_in, keys_in, shape_of}
 use Rattle.rt_wal.specs.Records.{IsRecordText}
 use Rattle.rt_first.specs.Trees.{named}
-use Rattle.rt_first.specs.Script.{insert_tree}
 use Rattle.rt_first.proofs.Form.{field_tree, fields_tree, key_tree, row_tree}
-use Rattle.rt_first.proofs.Numbers.{Numbers, NumbersOver, NumbersFlat, value_numbers}
+use Rattle.rt_first.proofs.Numbers.{Numbers, NumbersOver, value_numbers}
 use Rattle.rt_first.proofs.Values.{IsSound}
 
 -- the record's fields

@@ -1,5 +1,5 @@
 -- What the frame of the first form does, and the story behind it.
-use Rattle.std.proofs.Common.{◌≡◌, ℕ, ◌<◌, ◌≤◌, Bool, true, false, List, [], ◌∷◌, ◌++◌, length, Option, Some, None, refl, sym, ap, ◌∙◌}
+use Rattle.std.proofs.Common.{◌≡◌, ℕ, ◌<◌, ◌≤◌, Bool, true, false, List, [], ◌∷◌, length, refl, ap, ◌∙◌}
 use Rattle.std.specs.Prelude.{codes, option_to_list}
 use Rattle.std.specs.Str.{bytes_eq}
 use Rattle.rt_value.specs.declared.row.Row.{Row}
@@ -17,9 +17,8 @@ use Rattle.rt_entry.specs.declared.story.Opening.{Opening}
 use Rattle.rt_entry.specs.declared.story.Channel.{Channel}
 use Rattle.rt_entry.specs.declared.story.Part.{Part}
 use Rattle.rt_entry.specs.declared.story.Part.TheVariants.{Tells, Joins}
-use Rattle.rt_entry.specs.Joining.{Checked}
 use Rattle.rt_entry.specs.Messages.{joined_response, subscribed_message}
-use Rattle.rt_entry.specs.Story.{Story, Line, Now, joined, departed, members_at, ids_given, now_of, tables_left}
+use Rattle.rt_entry.specs.Story.{Story, Line, joined, departed, members_at, ids_given, now_of, tables_left}
 use Rattle.rt_entry.specs.Doings.{tell, channel_on, join_result_parts, join_over_former, message_parts, frame_parts, doings, story}
 use Rattle.rt_first.specs.Script.{join_tree}
 use Rattle.rt_first.specs.declared.catalogue.Column.{Column}

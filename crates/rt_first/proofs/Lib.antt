@@ -11,5 +11,6 @@ mod Joins
 mod Numbers
 mod Opens
 mod Polls
+mod Said
 mod Shapes
 mod Values

@@ -1,5 +1,5 @@
 -- Each number in the tree of a text is a number of the grammar.
-use Rattle.std.proofs.Common.{◌≡◌, ℕ, zero, suc, List, [], ◌∷◌, ◌++◌, subst, sym}
+use Rattle.std.proofs.Common.{ℕ, zero, suc, List, [], ◌∷◌, ◌++◌, subst, sym}
 use Rattle.std.specs.List.{AllByRecursion}
 use Rattle.rt_json.specs.Text.{IsNumber}
 use Rattle.rt_json.specs.Grammar as g

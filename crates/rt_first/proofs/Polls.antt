@@ -1,5 +1,5 @@
 -- What the poll of the first form does, and all answers of its journal.
-use Rattle.std.proofs.Common.{◌≡◌, ℕ, ◌<◌, ◌≤◌, Bool, true, false, List, [], ◌∷◌, ◌++◌, map, length, Option, Some, None, refl, sym, ap, ◌∙◌}
+use Rattle.std.proofs.Common.{◌≡◌, ℕ, ◌<◌, ◌≤◌, Bool, true, false, List, [], ◌∷◌, ◌++◌, length, ap, ◌∙◌}
 use Rattle.std.specs.Prelude.{◌≢◌, codes, nat_lt}
 use Rattle.std.specs.List.{filter_map}
 use Rattle.std.specs.Str.{bytes_eq}
@@ -13,14 +13,12 @@ use Rattle.rt_phx.specs.Asks.{is_channel_topic}
 use Rattle.rt_phx.specs.Says.{reply_ok}
 use Rattle.rt_catalog.specs.declared.catalog.Catalog.{Catalog}
 use Rattle.rt_change.specs.declared.change.Change.{Change}
-use Rattle.rt_change.specs.Shape.{shape_of}
 use Rattle.rt_change.specs.Verdicts.{verdict_of}
 use Rattle.rt_entry.specs.declared.input.Input.{Input}
 use Rattle.rt_entry.specs.declared.input.Input.TheVariants.{Opened, Frame, Poll}
 use Rattle.rt_entry.specs.declared.input.Settings.{Settings}
 use Rattle.rt_entry.specs.declared.story.Channel.{Channel}
-use Rattle.rt_entry.specs.declared.story.Part.{Part}
-use Rattle.rt_entry.specs.declared.story.Part.TheVariants.{Opens, Tells, Joins}
+use Rattle.rt_entry.specs.declared.story.Part.TheVariants.{Tells}
 use Rattle.rt_entry.specs.declared.answer.Answer.TheVariants.{Opened as opened, Says as says}
 use Rattle.rt_entry.specs.declared.entry.ChannelView.{ChannelView}
 use Rattle.rt_entry.specs.Messages.{joined_response, subscribed_message, change_message}
@@ -34,8 +32,8 @@ use Rattle.rt_first.specs.First.{kind_of}
 use Rattle.rt_first.proofs.Binds.{change_is}
 use Rattle.rt_first.proofs.Claims.{held_by}
 use Rattle.rt_first.proofs.Form.{catalog_with, table_with}
-use Rattle.rt_first.proofs.Joins.{join, channel, joined_parts, second_story, frame_joins, second_story_is}
-use Rattle.rt_first.proofs.Opens.{opening_by, first_story, first_story_is, opened_alone}
+use Rattle.rt_first.proofs.Joins.{join, channel, second_story, frame_joins, second_story_is}
+use Rattle.rt_first.proofs.Opens.{first_story, first_story_is, opened_alone}
 use Rattle.rt_first.proofs.Shapes.{shape_is}
 use Rattle.rt_first.proofs.Values.{Stands}
 

@@ -1,5 +1,5 @@
 -- The data of the first form's change.
-use Rattle.std.proofs.Common.{◌≡◌, ℕ, Bool, true, false, ◌||◌, not, List, [], ◌∷◌, length, Option, Some, None, refl, ap, ◌∙◌}
+use Rattle.std.proofs.Common.{◌≡◌, ℕ, Bool, false, ◌||◌, not, List, [], ◌∷◌, length, Option, Some, None, ap, ◌∙◌}
 use Rattle.std.specs.Prelude.{◌≢◌, codes, nat_lt, nat_le, slice_get, unwrap_or, if◌then◌else◌}
 use Rattle.std.specs.List.{filter_map}
 use Rattle.rt_value.specs.Choice.{◌>>=◌, some_if}

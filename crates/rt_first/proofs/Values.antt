@@ -1,20 +1,20 @@
 -- A value that fits a column's type is a value of its kind, and isn't null.
-use Rattle.std.proofs.Common.{◌≡◌, ◌⊎◌, inl, inr, ℕ, zero, suc, ◌<◌, ◌≤◌, ◌^◌, Bool, true, false, ◌&&◌, List, [], ◌∷◌, ◌++◌, length, ℤ, pos, neg_ℤ, Option, Some, None, refl, sym, ap, subst, ◌∙◌, arith, cond}
+use Rattle.std.proofs.Common.{◌≡◌, ◌⊎◌, inl, inr, ℕ, zero, suc, ◌<◌, ◌≤◌, Bool, true, false, ◌&&◌, List, [], ◌∷◌, ◌++◌, length, ℤ, pos, neg_ℤ, Option, Some, refl, sym, ap, subst, ◌∙◌, arith, cond}
 use Rattle.std.specs.Prelude.{◌==◌, nat_lt, nat_le, option_map, drop}
 use Rattle.std.specs.Char.{is_ascii_digit}
 use Rattle.std.specs.List.{list_all}
 use Rattle.std.specs.Str.{all_ascii_digits}
-use Rattle.std.specs.Str.Parse.{digits_value, without_leading_sign, without_leading_plus, starts_with_minus, signed_digits_value}
+use Rattle.std.specs.Str.Parse.{digits_value, without_leading_sign, without_leading_plus, signed_digits_value}
 use Rattle.std.proofs.lemmas.Bool.Decides.{nat_tests, eqb_tells}
 use Rattle.std.proofs.lemmas.Str.Parse.{IsNumeralModel, numerals_by_value, tells_all_ascii_digits, digits_value_short}
 use Rattle.rt_value.specs.declared.value.Value.{Value}
 use Rattle.rt_value.specs.declared.value.Value.TheVariants as value
 use Rattle.rt_value.specs.declared.value.Kind.{Kind}
 use Rattle.rt_value.specs.Choice.{◌>>=◌, some_if}
-use Rattle.rt_value.specs.Reading.{is_numeral, whole_in_text, fits, int_in_text}
+use Rattle.rt_value.specs.Reading.{is_numeral, fits, int_in_text}
 use Rattle.rt_json.specs.Text.{IsNumber, IsMinus, IsWhole}
 use Rattle.rt_json.specs.declared.tree.Json.{Json, Num, Text}
-use Rattle.rt_change.specs.Binding.{begins_with_plus, number_of, value_of, given}
+use Rattle.rt_change.specs.Binding.{begins_with_plus, value_of, given}
 use Rattle.rt_first.specs.First.{kind_of}
 use Rattle.rt_first.specs.Script as script
 use Rattle.rt_first.specs.Script.{without_minus, is_small_number}

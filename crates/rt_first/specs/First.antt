@@ -1,5 +1,5 @@
 -- What the first form means in the words of the whole: its catalogue, its inputs, and that what is due by them is what the slot is given.
-use Rattle.std.specs.Prelude.{◌≡◌, ℕ, ◌≤◌, false, List, [], ◌∷◌, map, codes, Option, Some, None, Ok}
+use Rattle.std.specs.Prelude.{◌≡◌, ℕ, ◌≤◌, false, List, [], ◌∷◌, map, codes, Some, None, Ok}
 use Rattle.std.proofs.Common.{refl, lit<}
 use Rattle.rt_value.specs.declared.claims.Claims.{Claims}
 use Rattle.rt_value.specs.declared.value.Kind.{Kind}
@@ -11,8 +11,6 @@ use Rattle.rt_phx.specs.declared.message.Version.TheVariants.{V1}
 use Rattle.rt_catalog.specs.declared.catalog.Catalog.{Catalog}
 use Rattle.rt_catalog.specs.declared.catalog.Table.{Table as CatalogTable}
 use Rattle.rt_catalog.specs.declared.catalog.Column.{Column as CatalogColumn}
-use Rattle.rt_catalog.specs.declared.catalog.Role.{Role}
-use Rattle.rt_catalog.specs.declared.catalog.Grant.{Grant}
 use Rattle.rt_change.specs.declared.change.Change.{Change}
 use Rattle.rt_change.specs.declared.change.Bound.TheVariants as bound
 use Rattle.rt_change.specs.Binding.{change_of}
