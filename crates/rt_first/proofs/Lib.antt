@@ -9,6 +9,7 @@ mod Given
 mod Inserts
 mod Joins
 mod Numbers
+mod Once
 mod Opens
 mod Polls
 mod Said

@@ -65,6 +65,12 @@ pub record AreInputs (c : Catalog) (slot : ℕ) (claims frame line : List ℕ) (
   pub bound : change_of c entry ≡ Ok (bound.Change change)
   pub are : journal ≡ Poll (change ∷ []) ∷ Frame slot frame ∷ Opened slot V1 held ∷ []
 
+-- the texts have one list of inputs at most
+abbrev pub InputsAreOne : Type 0
+InputsAreOne =
+    (c : Catalog) (slot : ℕ) (claims frame line : List ℕ) (a b : List Input)
+    → AreInputs c slot claims frame line a → AreInputs c slot claims frame line b → a ≡ b
+
 -- the text is a script of the first form, and these are its inputs
 pub record AreInputsOf (c : Catalogue) (text : List ℕ) (journal : List Input) : Type 0 where
   pub script : Script
