@@ -58,5 +58,6 @@ module _ (name : List ℕ) (first second : Column) (is_key : Bool) (role : List 
     pub bindings_found : bindings_for cat (held_by role) (binding_with name ∷ []) ≡ Ok (subscribed_with name ∷ [])
     unfolding bindings_for
     bindings_found =
-        ap (λ (o : Option ℕ). let f : Found = or_err UnknownRole o >> λ number. within_limit (binding_with name ∷ []) >> λ _. all_from cat number 1 (binding_with name ∷ []) in f) role_found
+        ap (λ (o : Option ℕ). let f : Found = or_err UnknownRole o >> λ number. within_limit (binding_with name ∷ []) >> λ _. all_from cat number 1 (binding_with name ∷ []) in f)
+        role_found
         ∙ ap (λ (o : Meant). let f : Found = at_count 1 o >> λ x. all_from cat 0 2 [] >> λ xs. Ok (x ∷ xs) in f) binding_means

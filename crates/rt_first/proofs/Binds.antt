@@ -41,7 +41,8 @@ module _ (name : List ℕ) (first second : Column) (is_key : Bool) (differ : fir
     -- each column is found by its name, and each field
     second_column : column_named table second.name ≡ Some (column_of second)
     second_column =
-        ap (λ (b : Bool). cond b (Some (column_of first)) (cond (bytes_eq second.name second.name) (Some (column_of second)) None)) (other_name first.name second.name differ)
+        ap (λ (b : Bool). cond b (Some (column_of first)) (cond (bytes_eq second.name second.name) (Some (column_of second)) None))
+        (other_name first.name second.name differ)
         ∙ ap (λ (b : Bool). cond b (Some (column_of second)) None) (same_name second.name)
 
     first_column : column_named table first.name ≡ Some (column_of first)
@@ -62,7 +63,8 @@ module _ (name : List ℕ) (first second : Column) (is_key : Bool) (differ : fir
 
     pub second_tree : tree_for fields (column_of second) ≡ Some two
     second_tree =
-        ap (λ (b : Bool). tree_in (cond b (Some one_field) (cond (bytes_eq second.name second.name) (Some two_field) None))) (other_name first.name second.name differ)
+        ap (λ (b : Bool). tree_in (cond b (Some one_field) (cond (bytes_eq second.name second.name) (Some two_field) None)))
+        (other_name first.name second.name differ)
         ∙ ap (λ (b : Bool). tree_in (cond b (Some two_field) None)) (same_name second.name)
 
     first_cell : cell_for fields (column_of first) ≡ Some of_one.value
@@ -76,12 +78,16 @@ module _ (name : List ℕ) (first second : Column) (is_key : Bool) (differ : fir
 
     second_fits : fields_fit table (two_field ∷ []) ≡ Ok true
     second_fits =
-        ap (λ (o : Option CatalogColumn). let r : Fit = or_fault (ColumnUnknown second.name) o >> λ col. or_fault (BadValue second.name) (value_of col.kind two) >> λ _. Ok true in r) second_column
+        ap (λ (o : Option CatalogColumn). let r : Fit = or_fault (ColumnUnknown second.name) o >> λ col. or_fault (BadValue second.name) (value_of col.kind two) >> λ _. Ok true in r)
+        second_column
         ∙ ap (λ (o : Option Value). let r : Fit = or_fault (BadValue second.name) o >> λ _. Ok true in r) of_two.is
 
     all_fit : fields_fit table fields ≡ Ok true
     all_fit =
-        ap (λ (o : Option CatalogColumn). let r : Fit = or_fault (ColumnUnknown first.name) o >> λ col. or_fault (BadValue first.name) (value_of col.kind one) >> λ _. fields_fit table (two_field ∷ []) in r) first_column
+        ap
+        (λ (o : Option CatalogColumn).
+        let r : Fit = or_fault (ColumnUnknown first.name) o >> λ col. or_fault (BadValue first.name) (value_of col.kind one) >> λ _. fields_fit table (two_field ∷ []) in r)
+        first_column
         ∙ ap (λ (o : Option Value). let r : Fit = or_fault (BadValue first.name) o >> λ _. fields_fit table (two_field ∷ []) in r) of_one.is
         ∙ second_fits
 
@@ -93,7 +99,8 @@ key_same : (key : List ℕ) → not ((bytes_eq key key || false) && true) ≡ fa
 key_same key = ap (λ (b : Bool). not ((b || false) && true)) (same_name key)
 
 module _ (name : List ℕ) (first second : Column) (differ : first.name ≢ second.name) (one two : Json) where
-  keys_agree : (size : ℕ) (is_key : Bool) → keys_differ Insert (whole_table name first second is_key) (entry_with name first.name second.name (key_column is_key first second).name one two size) ≡ false
+  keys_agree : (size : ℕ) (is_key : Bool)
+      → keys_differ Insert (whole_table name first second is_key) (entry_with name first.name second.name (key_column is_key first second).name one two size) ≡ false
   keys_agree size true = key_same second.name
   keys_agree size false = key_same first.name
 
@@ -101,12 +108,15 @@ module _ (name : List ℕ) (first second : Column) (differ : first.name ≢ seco
   named_without t n g = no_name (cond (elim g [ None ↦ true | Some v ↦ false ]) (Some n) None >>= name_at t)
 
   pub key_there : (is_key : Bool) → Stands (kind_of first.column_type) one → Stands (kind_of second.column_type) two
-      → key_given Insert (whole_table name first second is_key) (cells_for (whole_table name first second is_key) (fields_with first.name second.name one two)) ≡ Ok true
+      → key_given Insert (whole_table name first second is_key)
+      (cells_for (whole_table name first second is_key) (fields_with first.name second.name one two)) ≡ Ok true
   key_there true a b =
-      ap (λ (c : Option Value). named_without (whole_table name first second true) 1 (given c)) (second_cell name first second true differ one two a b)
+      ap (λ (c : Option Value). named_without (whole_table name first second true) 1 (given c))
+      (second_cell name first second true differ one two a b)
       ∙ ap (named_without (whole_table name first second true) 1) b.some
   key_there false a b =
-      ap (λ (c : Option Value). named_without (whole_table name first second false) 0 (given c)) (first_cell name first second false differ one two a b)
+      ap (λ (c : Option Value). named_without (whole_table name first second false) 0 (given c))
+      (first_cell name first second false differ one two a b)
       ∙ ap (named_without (whole_table name first second false) 0) a.some
 
 module _ (name : List ℕ) (first second : Column) (is_key : Bool) (one two : Json) (size : ℕ) where
@@ -122,7 +132,8 @@ module _ (name : List ℕ) (first second : Column) (is_key : Bool) (one two : Js
   abbrev pub change_is : Change
   change_is = change_with 0 table_is record_is Insert new_cells (cells_for table_is [])
 
-  module _ (role : List ℕ) (differ : first.name ≢ second.name) (of_one : Stands (kind_of first.column_type) one) (of_two : Stands (kind_of second.column_type) two) where
+  module _ (role : List ℕ) (differ : first.name ≢ second.name)
+      (of_one : Stands (kind_of first.column_type) one) (of_two : Stands (kind_of second.column_type) two) where
     abbrev Made : Type 0
     Made = Result Bound ChangeFault
 
@@ -133,6 +144,11 @@ module _ (name : List ℕ) (first second : Column) (is_key : Bool) (one two : Js
     unfolding change_of
     bound_is =
         ap (λ (o : Option ℕ). bound_at (catalog_with name first second is_key role) record_is o (Some Insert)) (table_found name first second is_key role)
-        ∙ ap (λ (b : Bool). let r : Made = or_fault KeyDiffers (some_if (not b) record_is) >> λ _. fields_fit table_is record_is.columns >> λ _. key_given Insert table_is new_cells >> λ _. made in r) (keys_agree name first second differ one two size is_key)
-        ∙ ap (λ (f : Result Bool ChangeFault). let r : Made = f >> λ _. key_given Insert table_is new_cells >> λ _. made in r) (all_fit name first second is_key differ one two of_one of_two)
-        ∙ ap (λ (f : Result Bool ChangeFault). let r : Made = f >> λ _. made in r) (key_there name first second differ one two is_key of_one of_two)
+        ∙ ap
+        (λ (b : Bool).
+        let r : Made = or_fault KeyDiffers (some_if (not b) record_is) >> λ _. fields_fit table_is record_is.columns >> λ _. key_given Insert table_is new_cells >> λ _. made in r)
+        (keys_agree name first second differ one two size is_key)
+        ∙ ap (λ (f : Result Bool ChangeFault). let r : Made = f >> λ _. key_given Insert table_is new_cells >> λ _. made in r)
+        (all_fit name first second is_key differ one two of_one of_two)
+        ∙ ap (λ (f : Result Bool ChangeFault). let r : Made = f >> λ _. made in r)
+        (key_there name first second differ one two is_key of_one of_two)

@@ -44,7 +44,8 @@ message_read topic reference name frame short h =
 -- a topic that begins with `realtime:` and goes on
 pub channel_topic : (channel : List ℕ) → 0 < length channel → is_channel_topic (codes "realtime:" ++ channel) ≡ true
 channel_topic channel some =
-    let long : length topic_prefix < length (codes "realtime:" ++ channel) = omega arith in lt-ltb (length topic_prefix) (length (codes "realtime:" ++ channel)) long
+    let long : length topic_prefix < length (codes "realtime:" ++ channel) = omega arith in
+    lt-ltb (length topic_prefix) (length (codes "realtime:" ++ channel)) long
 
 pub behind_prefix : (channel : List ℕ) → drop (length topic_prefix) (codes "realtime:" ++ channel) ≡ channel
 behind_prefix channel = refl
@@ -98,7 +99,8 @@ module _ (name : List ℕ) (first second : Column) (is_key : Bool) (role : List 
   from_bindings o = told_by registry_text o >> λ bindings. Ok (made 0 bindings)
 
   pub channel_made : (others : ℕ) → nat_lt others channel_limit ≡ true
-      → channel_of_join cat s now slot (opening_by (held_by role)) others (join_with topic reference name) ≡ Ok (channel_with now slot topic reference name role)
+      → channel_of_join cat s now slot (opening_by (held_by role)) others (join_with topic reference name)
+      ≡ Ok (channel_with now slot topic reference name role)
   unfolding json_computes config_of channel_of_join
   channel_made others room =
       ap (from_role others) (role_found name first second is_key role)

@@ -18,13 +18,15 @@ use Rattle.rt_script.specs.Running.{item_line, printed_due}
 use Rattle.rt_first.proofs.Bytes.{same_number, other_number}
 
 -- nothing of other numbers
-flat_none : {A : Type 0} (f : ℕ → List A) (k n slot : ℕ) → ((i : ℕ) → i ≢ slot → f i ≡ []) → slot < k → flat_map f (range_with_len k n) ≡ []
+flat_none : {A : Type 0} (f : ℕ → List A) (k n slot : ℕ) → ((i : ℕ) → i ≢ slot → f i ≡ [])
+    → slot < k → flat_map f (range_with_len k n) ≡ []
 flat_none f k zero slot none lt = refl
 flat_none {A} f k (suc n) slot none lt =
     let ne : k ≢ slot = omega arith in
     ap (λ (xs : List A). xs ++ flat_map f (range_with_len (k + 1) n)) (none k ne) ∙ flat_none f (k + 1) n slot none (omega arith)
 
-flat_one : {A : Type 0} (f : ℕ → List A) (k n slot : ℕ) → ((i : ℕ) → i ≢ slot → f i ≡ []) → k ≤ slot → slot < k + n → flat_map f (range_with_len k n) ≡ f slot
+flat_one : {A : Type 0} (f : ℕ → List A) (k n slot : ℕ) → ((i : ℕ) → i ≢ slot → f i ≡ [])
+    → k ≤ slot → slot < k + n → flat_map f (range_with_len k n) ≡ f slot
 flat_one f k zero slot none le lt = absurd (omega arith)
 flat_one {A} f k (suc n) slot none le lt = elim (eqb_tells k slot) [
   | inl t ↦ let beyond : slot < k + 1 = let e = t.1 in omega arith in

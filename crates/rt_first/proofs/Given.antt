@@ -21,7 +21,8 @@ use Rattle.rt_first.proofs.Inserts.{entry_with, entry_written, one_sound, two_so
 use Rattle.rt_first.proofs.Polls.{reply, told, change_told, journal, all_given}
 use Rattle.rt_first.proofs.Values.{Stands, fitting}
 
-module _ (name : List ℕ) (first second : Column) (is_key : Bool) (role : List ℕ) (slot : ℕ) (channel reference : List ℕ) (one two : Json) where
+module _ (name : List ℕ) (first second : Column) (is_key : Bool) (role : List ℕ) (slot : ℕ)
+    (channel reference : List ℕ) (one two : Json) where
   abbrev topic : List ℕ
   topic = codes "realtime:" ++ channel
 
@@ -47,10 +48,14 @@ module _ (name : List ℕ) (first second : Column) (is_key : Bool) (role : List 
   module _ (differ : first.name ≢ second.name) (no_star : bytes_eq name (codes "*") ≡ false) (within : slot < 256) (some : 0 < length channel)
       (claims frame line : List ℕ) (texts : AreTexts claims frame line) where
     of_one : Stands (kind_of first.column_type) one
-    of_one = fitting first.column_type one (one_sound name first.name second.name key_name texts.kind texts.other texts.third one two line texts.inserted) texts.first_fits
+    of_one =
+        fitting first.column_type one
+        (one_sound name first.name second.name key_name texts.kind texts.other texts.third one two line texts.inserted) texts.first_fits
 
     of_two : Stands (kind_of second.column_type) two
-    of_two = fitting second.column_type two (two_sound name first.name second.name key_name texts.kind texts.other texts.third one two line texts.inserted) texts.second_fits
+    of_two =
+        fitting second.column_type two
+        (two_sound name first.name second.name key_name texts.kind texts.other texts.third one two line texts.inserted) texts.second_fits
 
     small : nat_lt default_settings.max_record (length line) ≡ false
     small = let le = texts.few in grind (arith, nat_tests, le)
@@ -65,7 +70,9 @@ module _ (name : List ℕ) (first second : Column) (is_key : Bool) (role : List 
         held = held_by role;
         claimed = claims_found role claims texts.claimed;
         entry = entry_with name first.name second.name key_name one two (length line);
-        written = entry_written name first.name second.name key_name texts.kind texts.other texts.third one two (other_name first.name second.name differ) line texts.inserted;
+        written =
+            entry_written name first.name second.name key_name texts.kind texts.other texts.third one two
+            (other_name first.name second.name differ) line texts.inserted;
         change = change_is name first second is_key one two (length line);
         bound = bound_is name first second is_key one two (length line) role differ of_one of_two;
         are = refl;
@@ -75,5 +82,6 @@ module _ (name : List ℕ) (first second : Column) (is_key : Bool) (role : List 
           (told name first second is_key role default_settings slot topic reference frame one two (length line))
           (change_told name first second is_key role default_settings slot topic reference frame one two (length line))
           (catalog_with name first second is_key role) default_settings inputs within
-          (all_given name first second is_key role default_settings slot topic reference frame one two (length line) differ of_one of_two small no_star (channel_topic channel some) texts.short texts.joined within));
+          (all_given name first second is_key role default_settings slot topic reference frame one two (length line)
+          differ of_one of_two small no_star (channel_topic channel some) texts.short texts.joined within));
     }

@@ -50,7 +50,7 @@ module _ (name first second key : List ℕ) (kind other third one two : Json) (d
   abbrev from_fields : Option (List Field) → ℕ → Option Record
   from_fields o size =
       o >>= (λ columns. fields_in tree (codes "identity") >>= (λ identity. keys_in tree >>= (λ keys.
-      Some (record { action = action.Insert; schema = codes "public"; table = name; columns = columns; identity = identity; keys = keys; moment = None; size = size }))))
+      Some (record (entry_with name first second key one two size) { columns = columns; identity = identity; keys = keys }))))
 
   pub shape_found : (size : ℕ) → shape_of size tree ≡ Some (entry_with name first second key one two size)
   unfolding json_computes out-Json denote.Hole.Carrier.out denote.Hole.Carrier.shown
@@ -65,7 +65,8 @@ sound : (n : ℕ) (tree : Json) → NumbersOver (Numbers n) (out-Json tree) → 
 sound n (Num text) h = subst (NumbersOver (Numbers n)) (outs-Num text) h
 sound n _ h = tt
 
-module _ (name first second key : List ℕ) (kind other third one two : Json) (line : List ℕ) (read : IsJson line (row_tree name first second key kind other third one two)) where
+module _ (name first second key : List ℕ) (kind other third one two : Json) (line : List ℕ)
+    (read : IsJson line (row_tree name first second key kind other third one two)) where
   abbrev members : List Member
   members =
       named (codes "action") (j.Text (codes "I")) ∷ named (codes "schema") (j.Text (codes "public")) ∷ named (codes "table") (j.Text name)

@@ -27,7 +27,8 @@ use Rattle.rt_first.proofs.Channels.{join_with, message_read, channel_with, chan
 use Rattle.rt_first.proofs.Form.{catalog_with}
 use Rattle.rt_first.proofs.Opens.{opening_by, opening_found, first_story, first_story_is, still_open}
 
-module _ (name : List ℕ) (first second : Column) (is_key : Bool) (role : List ℕ) (s : Settings) (slot : ℕ) (topic reference frame : List ℕ) where
+module _ (name : List ℕ) (first second : Column) (is_key : Bool) (role : List ℕ) (s : Settings) (slot : ℕ)
+    (topic reference frame : List ℕ) where
   abbrev cat : Catalog
   cat = catalog_with name first second is_key role
 
@@ -45,7 +46,8 @@ module _ (name : List ℕ) (first second : Column) (is_key : Bool) (role : List 
   channel = record (channel_with (now_of before) slot topic reference name role) { number = 1; first_id = 1 }
 
   abbrev pub joined_parts : List Part
-  joined_parts = Joins channel ∷ Tells slot (reply_ok channel.join_ref join (joined_response channel)) ∷ Tells slot (subscribed_message channel) ∷ []
+  joined_parts =
+      Joins channel ∷ Tells slot (reply_ok channel.join_ref join (joined_response channel)) ∷ Tells slot (subscribed_message channel) ∷ []
 
   abbrev pub second_story : Story
   second_story = record { input = Frame slot frame; parts = joined_parts } ∷ before
@@ -58,7 +60,13 @@ module _ (name : List ℕ) (first second : Column) (is_key : Bool) (role : List 
         let now = now_of before in
         ap (frame_parts cat s now slot frame) (opening_found before slot within ∙ still_open slot (held_by role))
         ∙ ap (message_parts cat s now slot opening) (message_read topic reference name frame short read)
-        ∙ ap (λ (b : Bool). elim b [ true ↦ join_over_former cat s now slot opening join (option_to_list (channel_on now slot topic)) | false ↦ tell slot (reply_error join.join_ref join (codes "unmatched topic")) ]) on
+        ∙ ap
+        (λ (b : Bool).
+        elim b [
+          | true ↦ join_over_former cat s now slot opening join (option_to_list (channel_on now slot topic))
+          | false ↦ tell slot (reply_error join.join_ref join (codes "unmatched topic"))
+        ])
+        on
         ∙ ap (join_result_parts now slot [] join) (channel_made name first second is_key role no_star s now slot topic reference 0 refl)
 
     pub second_story_is : story cat s (Frame slot frame ∷ Opened slot V1 (held_by role) ∷ []) ≡ second_story

@@ -53,18 +53,23 @@ mutual
   value_numbers (g.number {n = n} {text = text} is) = num_numbers n text is
   value_numbers (g.text {n = n} {text = text} is) = text_numbers n text
   value_numbers (g.no_items {n = n} bl) = subst (NumbersOver (Numbers n)) (sym (outs-List [])) tt
-  value_numbers (g.items {n = n} {all = all} bl v more) = subst (NumbersOver (Numbers n)) (sym (outs-List all)) (items_numbers more (value_numbers v, tt))
+  value_numbers (g.items {n = n} {all = all} bl v more) =
+      subst (NumbersOver (Numbers n)) (sym (outs-List all)) (items_numbers more (value_numbers v, tt))
   value_numbers (g.no_members {n = n} bl) = subst (NumbersOver (Numbers n)) (sym (outs-Object [])) tt
-  value_numbers (g.members {n = n} {all = all} m more) = subst (NumbersOver (Numbers n)) (sym (outs-Object all)) (members_numbers more (member_numbers m, tt))
+  value_numbers (g.members {n = n} {all = all} m more) =
+      subst (NumbersOver (Numbers n)) (sym (outs-Object all)) (members_numbers more (member_numbers m, tt))
 
-  items_numbers : {n : ℕ} {before all : List Json} {xs ys : List ℕ} → MoreItems n before all xs ys → AllByRecursion (Numbers n) before → AllByRecursion (Numbers n) all
+  items_numbers : {n : ℕ} {before all : List Json} {xs ys : List ℕ} → MoreItems n before all xs ys
+      → AllByRecursion (Numbers n) before → AllByRecursion (Numbers n) all
   items_numbers (g.close_list bl) a = a
-  items_numbers (g.next_item {n = n} {v = v} {before = before} bl bm one more) a = items_numbers more (one_more (Numbers n) before v a (value_numbers one))
+  items_numbers (g.next_item {n = n} {v = v} {before = before} bl bm one more) a =
+      items_numbers more (one_more (Numbers n) before v a (value_numbers one))
 
   member_numbers : {n : ℕ} {m : Member} {xs ys : List ℕ} → IsMember n m xs ys → Numbers n m.value
   member_numbers (g.named bl text bm bn v) = value_numbers v
 
-  members_numbers : {n : ℕ} {before all : List Member} {xs ys : List ℕ} → MoreMembers n before all xs ys → AllByRecursion (λ (m : Member). Numbers n m.value) before
+  members_numbers : {n : ℕ} {before all : List Member} {xs ys : List ℕ} → MoreMembers n before all xs ys
+      → AllByRecursion (λ (m : Member). Numbers n m.value) before
       → AllByRecursion (λ (m : Member). Numbers n m.value) all
   members_numbers (g.close_object bl) a = a
   members_numbers (g.next_member {n = n} {m = m} {before = before} bl one more) a =

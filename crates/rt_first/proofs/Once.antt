@@ -37,7 +37,8 @@ time_at_once Json-F.Null a b x y = x ∙ sym y
 time_at_once (Json-F.Text text) a b x y = text_once text a b x y
 time_at_once _ a b x y = absurd x
 
-time_once : (o : Option Json) (a b : Option (List ℕ)) → MatchOption o (a ≡ None) (λ t. IsTimeAt (out-Json t) a) → MatchOption o (b ≡ None) (λ t. IsTimeAt (out-Json t) b) → a ≡ b
+time_once : (o : Option Json) (a b : Option (List ℕ))
+    → MatchOption o (a ≡ None) (λ t. IsTimeAt (out-Json t) a) → MatchOption o (b ≡ None) (λ t. IsTimeAt (out-Json t) b) → a ≡ b
 time_once None a b x y = x ∙ sym y
 time_once (Some tree) a b x y = time_at_once (out-Json tree) a b x y
 
@@ -50,11 +51,14 @@ record_once line a b x y =
     let moment : a.moment ≡ b.moment = time_once (member_of x.tree (codes "timestamp")) a.moment b.moment x.time time in
     λ i. record (but i) { moment = moment i }
 
-change_once : (c : Catalog) (a b : Record) (x y : Change) → a ≡ b → change_of c a ≡ Ok (bound.Change x) → change_of c b ≡ Ok (bound.Change y) → x ≡ y
-change_once c a b x y e f g = let both : (let r : Result Bound ChangeFault = Ok (bound.Change x) in r) ≡ Ok (bound.Change y) = sym f ∙ ap (change_of c) e ∙ g in cc
+change_once : (c : Catalog) (a b : Record) (x y : Change) → a ≡ b
+    → change_of c a ≡ Ok (bound.Change x) → change_of c b ≡ Ok (bound.Change y) → x ≡ y
+change_once c a b x y e f g =
+    let both : (let r : Result Bound ChangeFault = Ok (bound.Change x) in r) ≡ Ok (bound.Change y) = sym f ∙ ap (change_of c) e ∙ g in cc
 
 pub inputs_once : InputsAreOne
 inputs_once c slot claims frame line a b x y =
     let held : x.held ≡ y.held = same_value x.held y.held _ x.claimed y.claimed in
-    let change : x.change ≡ y.change = change_once c x.entry y.entry x.change y.change (record_once line x.entry y.entry x.written y.written) x.bound y.bound in
+    let entry : x.entry ≡ y.entry = record_once line x.entry y.entry x.written y.written in
+    let change : x.change ≡ y.change = change_once c x.entry y.entry x.change y.change entry x.bound y.bound in
     x.are ∙ ap₂ (λ (h : Claims) (ch : Change). Poll (ch ∷ []) ∷ Frame slot frame ∷ Opened slot V1 h ∷ []) held change ∙ sym y.are

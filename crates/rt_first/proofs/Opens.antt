@@ -46,7 +46,9 @@ module _ (slot : ℕ) (held : Claims) where
   module _ (c : Catalog) (s : Settings) (within : slot < 256) where
     pub opened_alone : (tables : List (List Row)) → doings c s (now_of []) tables (Opened slot V1 held) ≡ Opens slot (opening_by held) ∷ []
     unfolding doings now_of
-    opened_alone tables = ap (λ (o : Option Opening). end_if_open (now_of []) slot end_name.Replaced o ++ Opens slot (opening_by held) ∷ []) (opening_found [] slot within)
+    opened_alone tables =
+        ap (λ (o : Option Opening). end_if_open (now_of []) slot end_name.Replaced o ++ Opens slot (opening_by held) ∷ [])
+        (opening_found [] slot within)
 
     pub first_story_is : story c s (Opened slot V1 held ∷ []) ≡ first_story
     unfolding story

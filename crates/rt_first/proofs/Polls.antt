@@ -37,7 +37,8 @@ use Rattle.rt_first.proofs.Opens.{first_story, first_story_is, opened_alone}
 use Rattle.rt_first.proofs.Shapes.{shape_is}
 use Rattle.rt_first.proofs.Values.{Stands}
 
-module _ (name : List ℕ) (first second : Column) (is_key : Bool) (role : List ℕ) (s : Settings) (slot : ℕ) (topic reference frame : List ℕ) (one two : Json) (size : ℕ) where
+module _ (name : List ℕ) (first second : Column) (is_key : Bool) (role : List ℕ) (s : Settings) (slot : ℕ)
+    (topic reference frame : List ℕ) (one two : Json) (size : ℕ) where
   abbrev cat : Catalog
   cat = catalog_with name first second is_key role
 
@@ -68,7 +69,8 @@ module _ (name : List ℕ) (first second : Column) (is_key : Bool) (role : List 
     poll_tells : (tables : List (List Row)) → doings cat s (now_of after_join) tables (Poll (change ∷ [])) ≡ Tells slot change_told ∷ []
     unfolding doings now_of members_at joined departed claims_at subscriptions poll_parts verdict_of
     poll_tells tables =
-        ap (λ (data_ : Json). Tells slot (change_message view (1 ∷ []) data_) ∷ []) (shape_is name first second is_key role one two size differ of_one of_two s.max_record few)
+        ap (λ (data_ : Json). Tells slot (change_message view (1 ∷ []) data_) ∷ [])
+        (shape_is name first second is_key role one two size differ of_one of_two s.max_record few)
 
     abbrev pub journal : List Input
     journal = Poll (change ∷ []) ∷ Frame slot frame ∷ Opened slot V1 (held_by role) ∷ []
@@ -91,13 +93,15 @@ module _ (name : List ℕ) (first second : Column) (is_key : Bool) (role : List 
       second_answers : answers cat s (opening ∷ []) (Frame slot frame) ≡ (slot, says reply) ∷ (slot, says told) ∷ []
       unfolding answers_by
       second_answers =
-          ap (λ (st : Story). answers_by cat s (now_of st) (tables_left cat st (Frame slot frame)) (Frame slot frame)) (first_story_is slot (held_by role) cat s within)
+          ap (λ (st : Story). answers_by cat s (now_of st) (tables_left cat st (Frame slot frame)) (Frame slot frame))
+          (first_story_is slot (held_by role) cat s within)
           ∙ ap (filter_map answer_of) (frame_joins name first second is_key role s slot topic reference frame no_star on short read within _)
 
       third_answers : answers cat s (Frame slot frame ∷ opening ∷ []) (Poll (change ∷ [])) ≡ (slot, says change_told) ∷ []
       unfolding answers_by
       third_answers =
-          ap (λ (st : Story). answers_by cat s (now_of st) (tables_left cat st (Poll (change ∷ []))) (Poll (change ∷ []))) (second_story_is name first second is_key role s slot topic reference frame no_star on short read within)
+          ap (λ (st : Story). answers_by cat s (now_of st) (tables_left cat st (Poll (change ∷ []))) (Poll (change ∷ [])))
+          (second_story_is name first second is_key role s slot topic reference frame no_star on short read within)
           ∙ ap (filter_map answer_of) (poll_tells _)
 
       pub all_given : all_answers cat s journal ≡ given

@@ -20,7 +20,8 @@ use Rattle.rt_first.proofs.Given.{script_with, AreTexts, due_by_texts}
 no_star : (name : List ℕ) → is_name name ≡ true → bytes_eq name (codes "*") ≡ false
 no_star name h = other_name name (codes "*") (λ e. let no : false ≡ true = ap is_name (sym e) ∙ h in cc)
 
-key_is : (is_key : Bool) (first second key : Column) → slice_get (first ∷ second ∷ []) (key_place is_key) ≡ Some key → key ≡ key_column is_key first second
+key_is : (is_key : Bool) (first second key : Column)
+    → slice_get (first ∷ second ∷ []) (key_place is_key) ≡ Some key → key ≡ key_column is_key first second
 key_is true first second key e = cc
 key_is false first second key e = cc
 
@@ -28,7 +29,8 @@ module _ (name : List ℕ) (first second : Column) (is_key : Bool) (role : List 
   abbrev c : Catalogue
   c = catalogue_with name first second is_key role
 
-  same_row : (f s k : Column) → first ∷ second ∷ [] ≡ f ∷ s ∷ [] → k ≡ key_column is_key first second → (row : List Json) → IsRowLine name f s k line row
+  same_row : (f s k : Column) → first ∷ second ∷ [] ≡ f ∷ s ∷ [] → k ≡ key_column is_key first second → (row : List Json)
+      → IsRowLine name f s k line row
       → IsRowLine name first second (key_column is_key first second) line row
   same_row f s k e h row r =
       let one : f ≡ first = cc in
@@ -40,7 +42,8 @@ module _ (name : List ℕ) (first second : Column) (is_key : Bool) (role : List 
       subst R h (subst Q two (subst P one r))
 
   -- the parts of what is said, with their trees
-  module _ (slot : ℕ) (script : Script) (said : AreSaid c slot claims frame line script) (differ : first.name ≢ second.name) (named : is_name name ≡ true) (within : slot < 256) where
+  module _ (slot : ℕ) (script : Script) (said : AreSaid c slot claims frame line script)
+      (differ : first.name ≢ second.name) (named : is_name name ≡ true) (within : slot < 256) where
     row_line : IsRowLine name first second (key_column is_key first second) line script.row
     row_line =
         let ins = said.inserted in
@@ -48,7 +51,9 @@ module _ (name : List ℕ) (first second : Column) (is_key : Bool) (role : List 
         same_row ins.first ins.second ins.key ins.columns.0 k script.row ins.row_is
 
     by_row : IsRowLine name first second (key_column is_key first second) line script.row → IsDue c slot claims frame line script
-    by_row r = subst (IsDue c slot claims frame line) (sym whole) (due_by_texts name first second is_key role slot channel reference one two differ (no_star name named) within on.1 claims frame line texts)
+    by_row r =
+        subst (IsDue c slot claims frame line) (sym whole)
+        (due_by_texts name first second is_key role slot channel reference one two differ (no_star name named) within on.1 claims frame line texts)
       where
         one : Json
         one = r.row_is.one
@@ -62,6 +67,15 @@ module _ (name : List ℕ) (first second : Column) (is_key : Bool) (role : List 
         reference : List ℕ
         reference = script.join.reference
 
+        kind : Json
+        kind = r.row_is.inserts.fields_are.first_field.kind
+
+        other : Json
+        other = r.row_is.inserts.fields_are.second_field.kind
+
+        third : Json
+        third = r.row_is.inserts.key_is.kind
+
         on : (script.join.topic ≡ codes "realtime:" ++ channel) × (0 < length channel)
         on = said.joined.join_is.1
 
@@ -71,11 +85,12 @@ module _ (name : List ℕ) (first second : Column) (is_key : Bool) (role : List 
         joined : IsJson frame (join_tree (codes "realtime:" ++ channel) reference name)
         joined = subst (IsJson frame) (said.joined.join_is.0 ∙ ap (λ (t : List ℕ). join_tree t reference name) on.0) said.joined.read
 
-        inserted : IsJson line (row_tree name first.name second.name (key_column is_key first second).name r.row_is.inserts.fields_are.first_field.kind r.row_is.inserts.fields_are.second_field.kind r.row_is.inserts.key_is.kind one two)
+        inserted : IsJson line (row_tree name first.name second.name (key_column is_key first second).name kind other third one two)
         inserted =
             let f = r.row_is.inserts.fields_are in
             subst (IsJson line)
-            (r.row_is.inserts.is ∙ ap₂ (insert_tree name) (f.is ∙ ap₂ (λ (a b : Json). j.List (a ∷ b ∷ [])) f.first_field.is f.second_field.is) r.row_is.inserts.key_is.is) r.read
+            (r.row_is.inserts.is
+            ∙ ap₂ (insert_tree name) (f.is ∙ ap₂ (λ (a b : Json). j.List (a ∷ b ∷ [])) f.first_field.is f.second_field.is) r.row_is.inserts.key_is.is) r.read
 
         texts : AreTexts name first second is_key role slot channel reference one two claims frame line
         texts = record {
@@ -83,9 +98,9 @@ module _ (name : List ℕ) (first second : Column) (is_key : Bool) (role : List 
           short = said.joined.short;
           joined = joined;
           few = r.short;
-          kind = r.row_is.inserts.fields_are.first_field.kind;
-          other = r.row_is.inserts.fields_are.second_field.kind;
-          third = r.row_is.inserts.key_is.kind;
+          kind = kind;
+          other = other;
+          third = third;
           inserted = inserted;
           first_fits = r.row_is.inserts.fields_are.first_field.of_type;
           second_fits = r.row_is.inserts.fields_are.second_field.of_type;
@@ -100,4 +115,5 @@ given_due words c slot claims frame line script within st said =
     λ i. record { table = record { name = c.table.name; columns = st.columns i; key = st.key i }; role = c.role } in
     let P : Catalogue → Type 0 = λ x. AreSaid x slot claims frame line script → IsDue x slot claims frame line script in
     subst P (sym same)
-    (λ h. due_by_said c.table.name st.first st.second st.is_key c.role claims frame line slot script h st.named.columns_are.2 st.named.table_is (omega (arith, within))) said
+    (λ h. due_by_said c.table.name st.first st.second st.is_key c.role claims frame line slot script h
+    st.named.columns_are.2 st.named.table_is (omega (arith, within))) said

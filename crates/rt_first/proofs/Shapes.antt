@@ -34,7 +34,8 @@ module _ (name : List ℕ) (first second : Column) (is_key : Bool) (role : List 
 
   abbrev kept : Bool → Option Json → Option Json → ℕ × CatalogColumn → Option Member
   kept large a b n =
-      unwrap_or (slice_get (a ∷ b ∷ []) n.0) None >>= λ tree. some_if (not large || nat_le (length (written tree)) field_limit) (field n.1.name tree)
+      unwrap_or (slice_get (a ∷ b ∷ []) n.0) None >>= λ tree.
+      some_if (not large || nat_le (length (written tree)) field_limit) (field n.1.name tree)
 
   abbrev shaped : Bool → Option Json → Option Json → Json
   shaped large a b =
@@ -43,7 +44,8 @@ module _ (name : List ℕ) (first second : Column) (is_key : Bool) (role : List 
       ∷ named (codes "record") (j.Object (filter_map (kept large a b) columns))
       ∷ named (codes "errors") (if large then error_list (codes "Error 413: Payload Too Large") else Null) ∷ [])
 
-  pub shape_is : first.name ≢ second.name → Stands (kind_of first.column_type) one → Stands (kind_of second.column_type) two → (most : ℕ) → nat_lt most size ≡ false
+  pub shape_is : first.name ≢ second.name
+      → Stands (kind_of first.column_type) one → Stands (kind_of second.column_type) two → (most : ℕ) → nat_lt most size ≡ false
       → shape_of cat 0 most change ≡ inserted (table_with name first second is_key) (one ∷ two ∷ [])
   unfolding shape_of
   shape_is differ of_one of_two most few =

@@ -62,7 +62,8 @@ pub record ReadsAs (text : List ℕ) : Type 0 where
 abbrev read_by : Bool → ℤ → Option ℤ
 read_by b z = some_if b z >>= λ n. some_if (fits 32 n) n
 
-reads : (text ds : List ℕ) (z : ℤ) → without_leading_sign text ≡ ds → signed_digits_value 10 text ≡ z → AreDigits ds → fits 32 z ≡ true → int_in_text 32 text ≡ Some z
+reads : (text ds : List ℕ) (z : ℤ)
+    → without_leading_sign text ≡ ds → signed_digits_value 10 text ≡ z → AreDigits ds → fits 32 z ≡ true → int_in_text 32 text ≡ Some z
 reads text ds z e v d f =
     ap (λ xs. read_by (is_numeral xs) (signed_digits_value 10 text)) e
     ∙ ap (λ n. read_by (is_numeral ds) n) v
@@ -85,7 +86,8 @@ plain_reads b ds d =
     let first : is_ascii_digit b ≡ true = (both_true (is_ascii_digit b) (all_ascii_digits ds) d.each).0 in
     let minus : (b == 45) ≡ false = digit_no b 45 first (omega arith) in
     let plus : (b == 43) ≡ false = digit_no b 43 first (omega arith) in
-    let bare : without_leading_sign (b ∷ ds) ≡ b ∷ ds = ap (λ t. cond t ds (without_leading_plus (b ∷ ds))) minus ∙ ap (λ t. drop (cond t 1 0) (b ∷ ds)) plus in
+    let bare : without_leading_sign (b ∷ ds) ≡ b ∷ ds =
+    ap (λ t. cond t ds (without_leading_plus (b ∷ ds))) minus ∙ ap (λ t. drop (cond t 1 0) (b ∷ ds)) plus in
     let n = digits_value 10 (b ∷ ds) in
     let value : signed_digits_value 10 (b ∷ ds) ≡ pos n =
     ap (λ t. cond t (neg_ℤ (pos (digits_value 10 (without_leading_sign (b ∷ ds))))) (pos (digits_value 10 (without_leading_sign (b ∷ ds))))) minus
@@ -105,13 +107,16 @@ some_behind text n = by n.minus n.whole n.parts n.is_minus n.is_whole
 
     at_minus : (minus whole : List ℕ) → minus ≡ 45 ∷ [] → IsWhole whole → 0 < length (without_minus (minus ++ (whole ++ tail)))
     at_minus minus [] e w = absurd w
-    at_minus minus (b ∷ bs) e w = subst (λ (m : List ℕ). 0 < length (without_minus (m ++ ((b ∷ bs) ++ tail)))) (sym e) (let z : 0 < length (b ∷ (bs ++ tail)) = omega arith in z)
+    at_minus minus (b ∷ bs) e w =
+        subst (λ (m : List ℕ). 0 < length (without_minus (m ++ ((b ∷ bs) ++ tail)))) (sym e)
+        (let z : 0 < length (b ∷ (bs ++ tail)) = omega arith in z)
 
     at_none : (minus whole : List ℕ) → minus ≡ [] → IsWhole whole → 0 < length (without_minus (minus ++ (whole ++ tail)))
     at_none minus [] e w = absurd w
     at_none minus (b ∷ bs) e w =
         subst (λ (m : List ℕ). 0 < length (without_minus (m ++ ((b ∷ bs) ++ tail)))) (sym e)
-        (subst (λ (t : Bool). 0 < length {A = ℕ} (elim t [ true ↦ bs ++ tail | false ↦ b ∷ (bs ++ tail) ])) (sym (whole_begun b bs w)) (let z : 0 < length (b ∷ (bs ++ tail)) = omega arith in z))
+        (subst (λ (t : Bool). 0 < length {A = ℕ} (elim t [ true ↦ bs ++ tail | false ↦ b ∷ (bs ++ tail) ])) (sym (whole_begun b bs w))
+        (let z : 0 < length (b ∷ (bs ++ tail)) = omega arith in z))
 
     by : (minus whole : List ℕ) → text ≡ minus ++ (whole ++ tail) → IsMinus minus → IsWhole whole → 0 < length (without_minus text)
     by minus whole e (inl m) w = subst (λ (t : List ℕ). 0 < length (without_minus t)) (sym e) (at_none minus whole m w)
@@ -125,7 +130,8 @@ digits_of ds some h =
 pub small_reads : (text : List ℕ) → IsNumber text → is_small_number text ≡ true → ReadsAs text
 small_reads text n h = by text (digits_of (without_minus text) (some_behind text n) h)
   where
-    by_sign : (b : ℕ) (bs : List ℕ) → ((b == 45) ≡ true) × (b ≡ 45) ⊎ (((b == 45) ≡ false) × (b ≡ 45 → ⊥)) → AreDigits (without_minus (b ∷ bs)) → ReadsAs (b ∷ bs)
+    by_sign : (b : ℕ) (bs : List ℕ)
+        → ((b == 45) ≡ true) × (b ≡ 45) ⊎ (((b == 45) ≡ false) × (b ≡ 45 → ⊥)) → AreDigits (without_minus (b ∷ bs)) → ReadsAs (b ∷ bs)
     by_sign b bs (inl t) d =
         let Rest : Bool → Type 0 = λ x. AreDigits (elim x [ true ↦ bs | false ↦ b ∷ bs ]) in
         subst (λ (x : ℕ). ReadsAs (x ∷ bs)) (sym t.1) (negative_reads bs (subst Rest t.0 d))
@@ -152,7 +158,9 @@ fitting type_.Int4 (Num text) n h =
     let r = small_reads text n h in
     record {
       value = value.Int r.int;
-      is = ap (λ b. some_if (elim b [ true ↦ false | false ↦ true ]) text >>= λ ds. option_map value.Int (int_in_text 32 ds)) r.plain ∙ ap (option_map value.Int) r.is;
+      is =
+          ap (λ b. some_if (elim b [ true ↦ false | false ↦ true ]) text >>= λ ds. option_map value.Int (int_in_text 32 ds)) r.plain
+          ∙ ap (option_map value.Int) r.is;
       some = refl;
     }
 fitting type_.Text (Text text) n h = record { value = value.Text text; is = refl; some = refl }
