@@ -1,1 +1,17 @@
-
+mod Binding
+mod Binds
+mod Bytes
+mod Channels
+mod Claims
+mod Due
+mod Form
+mod Given
+mod Inserts
+mod Joins
+mod Numbers
+mod Once
+mod Opens
+mod Polls
+mod Said
+mod Shapes
+mod Values

@@ -1,5 +1,5 @@
 -- What the first form means in the words of the whole: its catalogue, its inputs, and that what is due by them is what the slot is given.
-use Rattle.std.specs.Prelude.{◌≡◌, ℕ, ◌≤◌, false, List, [], ◌∷◌, map, codes, Option, Some, None, Ok, tt}
+use Rattle.std.specs.Prelude.{◌≡◌, ℕ, ◌≤◌, false, List, [], ◌∷◌, map, codes, Some, None, Ok}
 use Rattle.std.proofs.Common.{refl, lit<}
 use Rattle.rt_value.specs.declared.claims.Claims.{Claims}
 use Rattle.rt_value.specs.declared.value.Kind.{Kind}
@@ -9,10 +9,8 @@ use Rattle.rt_wal.specs.declared.records.Record.{Record}
 use Rattle.rt_wal.specs.Records.{IsRecordText}
 use Rattle.rt_phx.specs.declared.message.Version.TheVariants.{V1}
 use Rattle.rt_catalog.specs.declared.catalog.Catalog.{Catalog}
-use Rattle.rt_catalog.specs.declared.catalog.Table as whole
-use Rattle.rt_catalog.specs.declared.catalog.Column as whole
-use Rattle.rt_catalog.specs.declared.catalog.Role.{Role}
-use Rattle.rt_catalog.specs.declared.catalog.Grant.{Grant}
+use Rattle.rt_catalog.specs.declared.catalog.Table.{Table as CatalogTable}
+use Rattle.rt_catalog.specs.declared.catalog.Column.{Column as CatalogColumn}
 use Rattle.rt_change.specs.declared.change.Change.{Change}
 use Rattle.rt_change.specs.declared.change.Bound.TheVariants as bound
 use Rattle.rt_change.specs.Binding.{change_of}
@@ -36,10 +34,10 @@ abbrev pub kind_of : ColumnType → Kind
 kind_of type_.Int4 = kind.Int4
 kind_of type_.Text = kind.Text
 
-abbrev pub column_of : Column → whole.Column
+abbrev pub column_of : Column → CatalogColumn
 column_of c = record { name = c.name; kind = kind_of c.column_type; shown = shown_type c.column_type }
 
-abbrev pub table_of : Table → whole.Table
+abbrev pub table_of : Table → CatalogTable
 table_of t = record { schema = codes "public"; name = t.name; columns = map column_of t.columns; key = t.key ∷ [] }
 
 -- no row security
@@ -66,6 +64,12 @@ pub record AreInputs (c : Catalog) (slot : ℕ) (claims frame line : List ℕ) (
   pub change : Change
   pub bound : change_of c entry ≡ Ok (bound.Change change)
   pub are : journal ≡ Poll (change ∷ []) ∷ Frame slot frame ∷ Opened slot V1 held ∷ []
+
+-- the texts have one list of inputs at most
+abbrev pub InputsAreOne : Type 0
+InputsAreOne =
+    (c : Catalog) (slot : ℕ) (claims frame line : List ℕ) (a b : List Input)
+    → AreInputs c slot claims frame line a → AreInputs c slot claims frame line b → a ≡ b
 
 -- the text is a script of the first form, and these are its inputs
 pub record AreInputsOf (c : Catalogue) (text : List ℕ) (journal : List Input) : Type 0 where
