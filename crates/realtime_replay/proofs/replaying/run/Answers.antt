@@ -8,9 +8,6 @@ returns-in_err-steps-clause-cause g c =
     let p = err_from_is_err_and c.from_residual-in_err-steps.result c.from_residual-in_err-steps.ensures.1 in
     rw (p.1, p.2) (ended_behind _ _ _ _ _ c.in_ok-form.ensures.found refl c.in_err-steps.ensures.cause)
 
-pub given_is_due-requires : goal.given_is_due-requires
-given_is_due-requires g c = ?
-
 pub returns-in_err-write_all-clause-cause : goal.returns-in_err-write_all-clause-cause
 returns-in_err-write_all-clause-cause g c =
     let p = err_from_is_err_and c.from_residual-in_err-write_all.result c.from_residual-in_err-write_all.ensures.1 in
