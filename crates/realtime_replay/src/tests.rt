@@ -27,6 +27,9 @@ const OUTPUT: &str =
 
 const REPLAY: [&str; 3] = ["replay", "a", "b"];
 
+/// More bytes than any output of these tests.
+const ROOM: usize = 4096;
+
 /// No call fails; the first one does.
 const NONE: &[u64] = &[];
 
@@ -38,8 +41,9 @@ fn source(alloc: Global, text: &str, failing: &[u64]) -> Result<MemSource, Alloc
     Ok(MemSource::new(Bytes::new(bytes), List::new(failing)))
 }
 
-fn sink(alloc: Global, failing: &[u64]) -> Result<MemSink, AllocError> {
-    MemSink::new(alloc, 4096, List::new(Vec::from_slice(alloc, failing)?))
+/// A sink that takes so many bytes.
+fn sink(alloc: Global, room: usize, failing: &[u64]) -> Result<MemSink, AllocError> {
+    MemSink::new(alloc, room, List::new(Vec::from_slice(alloc, failing)?))
 }
 
 /// The status of a run, with what it wrote to `out` and to `err`.
@@ -49,10 +53,11 @@ fn outcome<R: Threads + Sync>(
     words: &[&str],
     mut catalogue: MemSource,
     mut script: MemSource,
+    room: usize,
     failing_writes: &[u64],
 ) -> Result<(Status, Vec<u8>, Vec<u8>), AllocError> {
-    let mut out = sink(alloc, failing_writes)?;
-    let mut err = sink(alloc, &[])?;
+    let mut out = sink(alloc, room, failing_writes)?;
+    let mut err = sink(alloc, ROOM, &[])?;
     let status = replay(
         rt,
         alloc,
@@ -82,7 +87,7 @@ fn one_insert_from_bytes_to_bytes(rt: HostRuntime) -> Result<(), Fail> {
     let script = script_of(alloc, [OPEN, FRAME, WAL, "poll"])?;
     let catalogue = source(alloc, CATALOGUE, &[])?;
     let script = source(alloc, script.as_str(), &[])?;
-    let (status, out, err) = outcome(&rt, alloc, &REPLAY, catalogue, script, &[])?;
+    let (status, out, err) = outcome(&rt, alloc, &REPLAY, catalogue, script, ROOM, &[])?;
     assert_eq!(rt; status, Status::Ok);
     assert_eq!(rt; out.as_slice(), OUTPUT.as_bytes());
     assert_eq!(rt; err.as_slice(), b"".as_slice());
@@ -143,7 +148,7 @@ fn each_status_by_its_cause(rt: HostRuntime) -> Result<(), Fail> {
     ] {
         let catalogue = source(alloc, CATALOGUE, catalogue_fails)?;
         let script = source(alloc, script.as_str(), script_fails)?;
-        let (got, out, err) = outcome(&rt, alloc, words, catalogue, script, out_fails)?;
+        let (got, out, err) = outcome(&rt, alloc, words, catalogue, script, ROOM, out_fails)?;
         assert_eq!(rt; got, status);
         assert_eq!(rt; out.as_slice(), b"".as_slice());
         assert_eq!(rt; err.as_slice(), line.as_bytes());
@@ -157,7 +162,7 @@ fn one_byte_too_many(rt: HostRuntime) -> Result<(), Fail> {
     let long = Bytes::new(vec![in alloc; b'#'; 67108865]?);
     let script = MemSource::new(long, List::new(Vec::new(alloc)));
     let catalogue = source(alloc, CATALOGUE, &[])?;
-    let (status, out, err) = outcome(&rt, alloc, &REPLAY, catalogue, script, &[])?;
+    let (status, out, err) = outcome(&rt, alloc, &REPLAY, catalogue, script, ROOM, &[])?;
     assert_eq!(rt; status, Status::TooLong);
     assert_eq!(rt; out.as_slice(), b"".as_slice());
     assert_eq!(rt; err.as_slice(), b"too long\n".as_slice());
@@ -213,7 +218,7 @@ fn edges_of_the_catalogue(rt: HostRuntime) -> Result<(), Fail> {
     ] {
         let catalogue_source = source(alloc, catalogue, &[])?;
         let script = source(alloc, script.as_str(), &[])?;
-        let (got, _, _) = outcome(&rt, alloc, &REPLAY, catalogue_source, script, &[])?;
+        let (got, _, _) = outcome(&rt, alloc, &REPLAY, catalogue_source, script, ROOM, &[])?;
         assert_eq!(rt; got, status, "{catalogue}");
     }
     Ok(())
@@ -279,8 +284,53 @@ fn edges_of_the_script(rt: HostRuntime) -> Result<(), Fail> {
         let script = script_of(alloc, lines)?;
         let catalogue = source(alloc, CATALOGUE, &[])?;
         let script = source(alloc, script.as_str(), &[])?;
-        let (got, _, _) = outcome(&rt, alloc, &REPLAY, catalogue, script, &[])?;
+        let (got, _, _) = outcome(&rt, alloc, &REPLAY, catalogue, script, ROOM, &[])?;
         assert_eq!(rt; got, status, "line {line}: {to}");
     }
+    Ok(())
+}
+
+#[test]
+fn keys_and_slots(rt: HostRuntime) -> Result<(), Fail> {
+    let alloc = rt.alloc();
+    let text_key =
+        "create table notes (id int4, body text primary key); create role authenticated; grant select on notes to authenticated;";
+    let of_body =
+        r#"wal {"action":"I","schema":"public","table":"notes","columns":[{"name":"id","type":"integer","value":1},{"name":"body","type":"text","value":"hi"}],"pk":[{"name":"body","type":"text"}]}"#;
+    for (catalogue, slot, wal, status) in [
+        (CATALOGUE, "0", WAL, Status::Ok),
+        (text_key, "0", of_body, Status::Ok),
+        (text_key, "0", WAL, Status::NotBuilt),
+        (CATALOGUE, "255", WAL, Status::Ok),
+        (CATALOGUE, "256", WAL, Status::NotBuilt),
+    ] {
+        let opening = format!(in alloc;
+            "open {slot}{}",
+            OPEN.strip_prefix("open 0").unwrap_or("")
+        )?;
+        let frame = format!(in alloc;
+            "frame {slot}{}",
+            FRAME.strip_prefix("frame 0").unwrap_or("")
+        )?;
+        let script = script_of(alloc, [opening.as_str(), frame.as_str(), wal, "poll"])?;
+        let catalogue = source(alloc, catalogue, &[])?;
+        let script = source(alloc, script.as_str(), &[])?;
+        let (got, out, _) = outcome(&rt, alloc, &REPLAY, catalogue, script, ROOM, &[])?;
+        assert_eq!(rt; got, status, "{slot}");
+        assert_eq!(rt; out.is_empty(), status != Status::Ok);
+    }
+    Ok(())
+}
+
+#[test]
+fn a_full_output_keeps_its_front(rt: HostRuntime) -> Result<(), Fail> {
+    let alloc = rt.alloc();
+    let script = script_of(alloc, [OPEN, FRAME, WAL, "poll"])?;
+    let catalogue = source(alloc, CATALOGUE, &[])?;
+    let script = source(alloc, script.as_str(), &[])?;
+    let (status, out, err) = outcome(&rt, alloc, &REPLAY, catalogue, script, 100, &[])?;
+    assert_eq!(rt; status, Status::WriteFault);
+    assert_eq!(rt; out.as_slice(), &OUTPUT.as_bytes()[..100]);
+    assert_eq!(rt; err.as_slice(), b"write fault\n".as_slice());
     Ok(())
 }
