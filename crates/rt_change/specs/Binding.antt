@@ -16,6 +16,7 @@ use Rattle.rt_wal.specs.declared.records.Record.{Record}
 use Rattle.rt_wal.specs.declared.records.Field.{Field}
 use Rattle.rt_wal.specs.declared.records.Action.{Action}
 use Rattle.rt_wal.specs.declared.records.Action.TheVariants as action
+use Rattle.rt_wal.specs.Records.{IsRecord}
 use Rattle.rt_catalog.specs.declared.catalog.Catalog.{Catalog}
 use Rattle.rt_catalog.specs.declared.catalog.Table.{Table}
 use Rattle.rt_catalog.specs.declared.catalog.Column.{Column}
@@ -215,6 +216,9 @@ bound_at c r _ _ = Ok bound.Skip
 unfoldable pub change_of : Catalog → Record → Result Bound ChangeFault
 change_of c r = bound_at c r (table_named c r.schema r.table) (verb_of r.action)
 
--- some record of a stream is this change
-abbrev pub IsBound : Catalog → Change → Type 0
-IsBound c ch = (r : Record) × (change_of c r ≡ Ok (bound.Change ch))
+-- some line of a stream is a record of this change
+pub record IsBound (c : Catalog) (ch : Change) : Type 0 where
+  pub line : List ℕ
+  pub entry : Record
+  pub is_record : IsRecord line entry
+  pub gives : change_of c entry ≡ Ok (bound.Change ch)

@@ -62,7 +62,7 @@ MayArrive (Frame slot bytes) = slot < slot_count
 MayArrive (Gone slot) = slot < slot_count
 MayArrive _ = ⊥
 
--- what may be fed, where m is the latest tick before: polls of changes that binding gave, ticks no earlier, a stop
+-- what may be fed, where m is the latest tick before: polls of changes that lines of a stream are bound to, ticks no earlier, a stop
 abbrev pub MayFeed : Catalog → ℕ → Input → Type 0
 MayFeed c m (Poll changes) = All (IsBound c) changes
 MayFeed c m (Tick n) = m ≤ n

@@ -7,4 +7,5 @@ pub mod Joining
 pub mod Machine
 pub mod Messages
 pub mod Presence
+pub mod Readable
 pub mod Story

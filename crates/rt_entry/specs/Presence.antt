@@ -1,18 +1,16 @@
 -- The presence that a client holds (the Realtime protocol, "Presence"): the metas of a state, then of each difference its joins added and its
 -- leaves removed by `phx_ref`.
-use Rattle.std.specs.Prelude.{◌≡◌, ℕ, suc, ◌==◌, ◌<◌, ◌^◌, nat_le, Bool, true, false, not, ◌&&◌, List, [], ◌∷◌, ◌++◌, map, length, codes, Option, Some, None, count_by, unwrap_or, IsPermutation, Contains, IsUtf8}
-use Rattle.std.specs.List.{filter, filter_map, flat_map, list_any, AllByRecursion}
+use Rattle.std.specs.Prelude.{◌≡◌, ℕ, suc, ◌==◌, ◌<◌, ◌^◌, nat_le, Bool, true, false, not, ◌&&◌, List, [], ◌∷◌, ◌++◌, map, length, codes, Option, Some, None, count_by, unwrap_or, IsPermutation, Contains}
+use Rattle.std.specs.List.{filter, filter_map, flat_map, list_any}
 use Rattle.std.specs.Str.{bytes_eq}
 use Rattle.rt_value.specs.Choice.{◌>>=◌, first_case}
 use Rattle.rt_json.specs.declared.tree.Json.{Json}
 use Rattle.rt_json.specs.declared.tree.named.Member.{Member}
-use Rattle.rt_json.specs.Fits.{FitsWithin}
 use Rattle.rt_json.specs.Grammar.{IsWithin}
 use Rattle.rt_json.specs.Lookup.{member_of, members_of}
 use Rattle.rt_json.specs.Trees.{text_of, list_of}
 use Rattle.rt_phx.specs.declared.message.Message.{Message}
 use Rattle.rt_phx.specs.declared.message.Version.{Version}
-use Rattle.rt_phx.specs.Fits.{IsRef}
 use Rattle.rt_phx.specs.Frame.{no_members, message_of_tree}
 use Rattle.rt_catalog.specs.declared.catalog.Catalog.{Catalog}
 use Rattle.rt_entry.specs.declared.input.Input.{Input}
@@ -30,6 +28,8 @@ use Rattle.rt_entry.specs.Messages.{meta_tree}
 use Rattle.rt_entry.specs.Doings.{story}
 use Rattle.rt_entry.specs.Answers.{told, answers, due}
 use Rattle.rt_entry.specs.Machine.{World, is_message, start, run}
+use Rattle.rt_entry.specs.Headline.{AreAllowed}
+use Rattle.rt_entry.specs.Readable.{payload_levels, HasReadableNames}
 
 -- a key and a meta under it
 abbrev pub Held : Type 0
@@ -114,14 +114,6 @@ message_in read version (End name) = None
 abbrev pub messages_on : (List ℕ → Option Json) → Version → List ℕ → List Item → List Message
 messages_on read version topic items = filter (λ m. bytes_eq m.topic topic) (filter_map (message_in read version) items)
 
--- its numbers are numbers of the grammar, its texts are UTF-8, and its payload nests in at most so many levels
-pub record IsReadable (levels : ℕ) (m : Message) : Type 0 where
-  pub join_ref : IsRef m.join_ref
-  pub reference : IsRef m.reference
-  pub topic : IsUtf8 m.topic
-  pub event : IsUtf8 m.event
-  pub payload : FitsWithin levels m.payload
-
 abbrev pub said_by : Answer → Option Message
 said_by (Says m) = Some m
 said_by (Opened version) = None
@@ -141,12 +133,13 @@ module _ (c : Catalog) (s : Settings) where
     pub opening : opening_at (story c s before) ch.slot ≡ Some o
     pub items : last_items (w.slots ch.slot).given ≡ last_items (due c s before ch.slot)
 
-  -- Then its client holds what is present, where its reader takes what the slot was told since the join: a message is a level around its payload. The
-  -- journal is shorter than 2 ^ 64 as above.
+  -- Then its client holds what is present, by any reader of its own that goes as deep as the server's messages: a message is a level around its payload.
+  -- The conditions are the caller's alone: on the steps, on the names of the catalogue, and on the limit of the journal, a number of 32 bits.
   abbrev pub GivenClientsAgree : Type 0
   GivenClientsAgree =
-      (steps : List Step) (later before : List Input) (ch : Channel) (o : Opening) (levels : ℕ) (read : List ℕ → Option Json)
-      → (run c s steps start).journal ≡ later ++ before → length before < 2 ^ 64 → IsUpTo (run c s steps start) before ch o
-      → IsReader (suc levels) read → AllByRecursion (IsReadable levels) (said_since ch before)
+      HasReadableNames c → s.inputs < 2 ^ 32
+      → (steps : List Step) (later before : List Input) (ch : Channel) (o : Opening) (read : List ℕ → Option Json)
+      → AreAllowed c s 0 steps → (run c s steps start).journal ≡ later ++ before → IsUpTo (run c s steps start) before ch o
+      → IsReader (suc payload_levels) read
       → IsPermutation (client_view [] (messages_on read o.version ch.topic (last_items ((run c s steps start).slots ch.slot).given)))
       (map shown_meta (present_on c s before ch.topic))

@@ -37,7 +37,8 @@ not_false false e = refl
 
 module _ (c : Catalog) (s : Settings) where
   members_next : (journal : List Input) (i : Input)
-      → members_at (story c s (i ∷ journal)) ≡ filter (remains_by (done_by c s journal i)) (members_at (story c s journal)) ++ joins_of (done_by c s journal i)
+      → members_at (story c s (i ∷ journal)) ≡ filter (remains_by (done_by c s journal i)) (members_at (story c s journal)) ++ joins_of
+      (done_by c s journal i)
   unfolding story
   members_next journal i = members_more (line_of c s journal i) (story c s journal) (story_shaped c s (i ∷ journal))
 
@@ -45,7 +46,8 @@ module _ (c : Catalog) (s : Settings) where
   unfolding story
   joins_numbered journal i ch here =
       let w = joins_well (line_of c s journal i) (story c s journal) (story_shaped c s (i ∷ journal)) in
-      all_among (λ (x : Channel). x.number ≡ length (story c s journal)) (joins_of (done_by c s journal i)) ch w.numbers here ∙ story_length c s journal
+      all_among (λ (x : Channel). x.number ≡ length (story c s journal)) (joins_of (done_by c s journal i)) ch w.numbers here
+      ∙ story_length c s journal
 
   pub none_first : members_at (story c s []) ≡ []
   unfolding story
@@ -54,7 +56,8 @@ module _ (c : Catalog) (s : Settings) where
   -- each channel of a member's is there before the input or joins by it
   abbrev pub Either : List Input → Input → Channel → Type 0
   Either journal i ch =
-      (Among (members_at (story c s journal)) ch × (has ch.number (departed_in (done_by c s journal i)) ≡ false)) ⊎ Among (joins_of (done_by c s journal i)) ch
+      (Among (members_at (story c s journal)) ch × (has ch.number (departed_in (done_by c s journal i)) ≡ false)) ⊎ Among
+      (joins_of (done_by c s journal i)) ch
 
   pub either : (journal : List Input) (i : Input) (ch : Channel) → Among (members_at (story c s (i ∷ journal))) ch → Either journal i ch
   either journal i ch here =
@@ -84,7 +87,8 @@ module _ (c : Catalog) (s : Settings) where
   stays_put journal i ch held_open here stays =
       let st = story c s journal in
       let parts = done_by c s journal i in
-      (kept_by journal i held_open).slots (member_in st ch) (map_among (member_in st) (members_at st) ch here) (ap (has ch.number) (append-nil (departed_in parts)) ∙ stays)
+      (kept_by journal i held_open).slots (member_in st ch) (map_among (member_in st) (members_at st) ch here)
+      (ap (has ch.number) (append-nil (departed_in parts)) ∙ stays)
 
   pub open_channel : (journal : List Input) (i : Input) (ch : Channel) → OpenSlots journal → Either journal i ch
       → IsOpen (now_of (story c s journal)) ch.slot × AllOf (Spares ch.slot) (done_by c s journal i)
@@ -100,7 +104,8 @@ module _ (c : Catalog) (s : Settings) where
       let k = open_channel journal i made.0 held_open (either journal i made.0 made.1) in
       let P : Now → Type 0 = λ now. IsOpen now made.0.slot in
       let Q : Member → Type 0 = λ m. IsOpen (now_of st) m.channel.slot in
-      subst Q made.2 (subst P (sym (story_grows c s journal i)) (open_after (now_of (story c s journal)) i (done_by c s journal i) made.0.slot k.0 k.1))
+      subst Q made.2 (subst P (sym (story_grows c s journal i))
+      (open_after (now_of (story c s journal)) i (done_by c s journal i) made.0.slot k.0 k.1))
 
   none_there : (h : Member) → Among (members_in (story c s [])) h → ⊥
   none_there h here =
@@ -112,7 +117,8 @@ module _ (c : Catalog) (s : Settings) where
   open_slots [] h here = absurd (none_there h here)
   open_slots (i ∷ journal) h here = open_more journal i (open_slots journal) h here
 
-  pub slots_open : (journal : List Input) (h : Member) → Contains (members_of_journal c s journal) h → IsOpen (now_of (story c s journal)) h.channel.slot
+  pub slots_open : (journal : List Input) (h : Member) → Contains (members_of_journal c s journal) h
+      → IsOpen (now_of (story c s journal)) h.channel.slot
   unfolding now_of
   slots_open journal h known = open_slots journal h (from_contains (members_in (story c s journal)) h known)
 
@@ -133,7 +139,8 @@ module _ (c : Catalog) (s : Settings) where
   told_case : (ch : Channel) (i : Input) (before : List Input) (b : Bool) → nat_le ch.number (length before) ≡ b → ch.number ≤ length before
       → told_since c s ch (i ∷ before) ≡ told_since c s ch before ++ heard c s before i ch
   told_case ch i before b e le =
-      let yes : nat_le ch.number (length before) ≡ true = elim (leb_tells ch.number (length before)) [ inl t ↦ t.0 | inr t ↦ let lt = t.1 in absurd (omega arith) ] in
+      let yes : nat_le ch.number (length before) ≡ true = elim
+      (leb_tells ch.number (length before)) [ inl t ↦ t.0 | inr t ↦ let lt = t.1 in absurd (omega arith) ] in
       ap (λ (x : Bool). elim x as (λ k. List Message) [ true ↦ told_since c s ch before ++ heard c s before i ch | false ↦ [] ]) yes
 
   told_more : (ch : Channel) (i : Input) (before : List Input) → ch.number ≤ length before
@@ -143,22 +150,26 @@ module _ (c : Catalog) (s : Settings) where
   pub none_told : (ch : Channel) (before : List Input) → length before ≤ ch.number → told_since c s ch before ≡ []
   none_told ch [] le = refl
   none_told ch (i ∷ before) le =
-      let no : nat_le ch.number (length before) ≡ false = elim (leb_tells ch.number (length before)) [ inl t ↦ let k = t.1 in absurd (omega arith) | inr t ↦ t.0 ] in
+      let no : nat_le ch.number (length before) ≡ false = elim
+      (leb_tells ch.number (length before)) [ inl t ↦ let k = t.1 in absurd (omega arith) | inr t ↦ t.0 ] in
       ap (λ (x : Bool). elim x as (λ k. List Message) [ true ↦ told_since c s ch before ++ heard c s before i ch | false ↦ [] ]) no
 
   -- whatever it held before its join
   abbrev pub Agrees : List Input → Channel → List Held → Type 0
   Agrees journal ch held =
-      Moves (client_view held (told_since c s ch journal)) (map shown_meta (filter (λ (t : Track). bytes_eq t.topic ch.topic) (present_at (story c s journal))))
+      Moves (client_view held (told_since c s ch journal)) (map shown_meta
+      (filter (λ (t : Track). bytes_eq t.topic ch.topic) (present_at (story c s journal))))
 
   -- one input later, where it holds what the input's tracks make
   agrees_next : (journal : List Input) (i : Input) (ch : Channel) (held : List Held) → ch.number ≤ length journal
-      → Moves (client_view (client_view held (told_since c s ch journal)) (heard c s journal i ch)) (map shown_meta (filter (λ (t : Track). bytes_eq t.topic ch.topic) (tracks_after (present_at (story c s journal)) (done_by c s journal i))))
+      → Moves (client_view (client_view held (told_since c s ch journal)) (heard c s journal i ch))
+      (map shown_meta (filter (λ (t : Track). bytes_eq t.topic ch.topic) (tracks_after (present_at (story c s journal)) (done_by c s journal i))))
       → Agrees (i ∷ journal) ch held
   agrees_next journal i ch held le m =
       let on : Track → Bool = λ t. bytes_eq t.topic ch.topic in
       let P : List Held → Type 0 = λ x. Moves x (map shown_meta (filter on (present_at (story c s (i ∷ journal))))) in
-      let Q : List Track → Type 0 = λ ts. Moves (client_view (client_view held (told_since c s ch journal)) (heard c s journal i ch)) (map shown_meta (filter on ts)) in
+      let Q : List Track → Type 0 = λ ts. Moves (client_view (client_view held (told_since c s ch journal)) (heard c s journal i ch))
+      (map shown_meta (filter on ts)) in
       subst P (sym (ap (client_view held) (told_more ch i journal le) ∙ view_append held (told_since c s ch journal) (heard c s journal i ch)))
       (subst Q (sym (tracks_next c s journal i)) m)
 
@@ -169,7 +180,8 @@ module _ (c : Catalog) (s : Settings) where
       subst P (story_length c s journal) (all_among (IsBelow (length st)) (members_at st) ch (members_below st (story_shaped c s journal)) here)
 
   started : (journal : List Input) (i : Input) (ch : Channel) → Among (joins_of (done_by c s journal i)) ch → ch.presence ≡ true → (held : List Held)
-      → Moves (client_view held (heard c s journal i ch)) (map shown_meta (filter (λ (t : Track). bytes_eq t.topic ch.topic) (tracks_after (present_at (story c s journal)) (done_by c s journal i))))
+      → Moves (client_view held (heard c s journal i ch)) (map shown_meta
+      (filter (λ (t : Track). bytes_eq t.topic ch.topic) (tracks_after (present_at (story c s journal)) (done_by c s journal i))))
   unfolding answers_by now_of
   started journal i ch joins enabled held = (kept_by journal i (open_slots journal)).starts ch joins enabled held
 
@@ -180,12 +192,14 @@ module _ (c : Catalog) (s : Settings) where
       let h = member_in st ch in
       let here = map_among (member_in st) (members_at st) ch a.0 in
       let lt = member_number journal ch a.0 in
-      agrees_next journal i ch held (omega arith) (held_after c s journal i h short (no_stop journal i h here a.1) here enabled (client_view held (told_since c s ch journal)) a.1 (before a.0))
+      agrees_next journal i ch held (omega arith) (held_after c s journal i h short (no_stop journal i h here a.1) here enabled
+      (client_view held (told_since c s ch journal)) a.1 (before a.0))
   agrees_by journal i ch held short enabled before (inr b) =
       let e = joins_numbered journal i ch b in
       agrees_next journal i ch held (omega arith) (started journal i ch b enabled (client_view held (told_since c s ch journal)))
 
-  pub agrees : (journal : List Input) (ch : Channel) (held : List Held) → length journal < 2 ^ 64 → Among (members_at (story c s journal)) ch → ch.presence ≡ true
+  pub agrees : (journal : List Input) (ch : Channel) (held : List Held) → length journal < 2 ^ 64 → Among (members_at (story c s journal)) ch
+      → ch.presence ≡ true
       → Agrees journal ch held
   agrees [] ch held short here enabled = absurd (let P : List Channel → Type 0 = λ chs. Among chs ch in subst P none_first here)
   agrees (i ∷ journal) ch held short here enabled =

@@ -53,7 +53,11 @@ shown_end true bytes p (inr h) = absurd h
 shown_end false bytes p h = absurd h
 
 shown_cut : (t u : Bool) (bytes : List ℕ) (p : Placed)
-    → Among (elim t as (λ v. List Item) [ true ↦ p.item ∷ [] | false ↦ elim u as (λ v. List Item) [ true ↦ item.End OutboxFull ∷ [] | false ↦ [] ] ]) (item.Message bytes)
+    → Among (elim t as (λ v. List Item) [
+      | true ↦ p.item ∷ []
+      | false ↦ elim u as
+          (λ v. List Item) [ true ↦ item.End OutboxFull ∷ [] | false ↦ [] ]
+    ]) (item.Message bytes)
     → p.item ≡ item.Message bytes
 shown_cut true u bytes p (inl e) = e
 shown_cut true u bytes p (inr h) = absurd h
@@ -138,10 +142,12 @@ fine_parts : (n : ℕ) (hs : List Member) (ps : List Part) → Shape true n hs p
 fine_parts n hs ps (plain h) = all_weaker (Plain true n) FinePart ps (fine_part n) h
 fine_parts n hs ps (joining front ch back f g k room e) =
     subst (AllOf FinePart) (sym e)
-    (all_append FinePart front (Joins ch ∷ back) (all_weaker (Plain true n) FinePart front (fine_part n) f) ((λ slot m x. absurd (cc)), all_weaker (Plain true n) FinePart back (fine_part n) g))
+    (all_append FinePart front (Joins ch ∷ back) (all_weaker (Plain true n) FinePart front (fine_part n) f)
+    ((λ slot m x. absurd (cc)), all_weaker (Plain true n) FinePart back (fine_part n) g))
 fine_parts n hs ps (tracking front t back f g k lt own e) =
     subst (AllOf FinePart) (sym e)
-    (all_append FinePart front (Tracks t ∷ back) (all_weaker (Quiet true) FinePart front fine_quiet f) ((λ slot m x. absurd (cc)), all_weaker (Quiet true) FinePart back fine_quiet g))
+    (all_append FinePart front (Tracks t ∷ back) (all_weaker (Quiet true) FinePart front fine_quiet f)
+    ((λ slot m x. absurd (cc)), all_weaker (Quiet true) FinePart back fine_quiet g))
 
 fine_says : (n : ℕ) (hs : List Member) (ps : List Part) (slot : ℕ) (m : Message) → Shape true n hs ps
     → Among (filter_map answer_of ps) (slot, a.Says m) → m.event ≡ codes "postgres_changes" → ⊥
@@ -155,7 +161,8 @@ module _ (c : Catalog) (s : Settings) where
   Polled before i slot m = (changes : List Change) × (i ≡ Poll changes) × IsDueBy c s before changes slot m
 
   polled : (before : List Input) (i : Input) (slot : ℕ) (m : Message) → Among (answers c s before i) (slot, a.Says m)
-      → Shape (fine_for i) (length (story c s before)) (members_in (story c s before)) (doings c s (now_of (story c s before)) (tables_left c (story c s before) i) i)
+      → Shape (fine_for i) (length (story c s before)) (members_in (story c s before))
+      (doings c s (now_of (story c s before)) (tables_left c (story c s before) i) i)
       → m.event ≡ codes "postgres_changes" → Polled before i slot m
   unfolding answers_by
   polled before (Poll changes) slot m x sh e =
@@ -179,7 +186,14 @@ module _ (c : Catalog) (s : Settings) where
   of_input (i ∷ before) g h =
       let P : Answers → Type 0 = λ gs. Among gs g in
       elim (among_either (all_answers c s before) (answers c s before i) g (subst P (answers_more c s before i) h)) [
-        | inl x ↦ let r = of_input before g x in record { later = i ∷ r.later; input = r.input; before = r.before; taken = ap (λ js. i ∷ js) r.taken; answered = r.answered }
+        | inl x ↦ let r = of_input before g x in record {
+          later = i ∷ r.later;
+          input = r.input;
+          before = r.before;
+          taken = ap
+              (λ js. i ∷ js) r.taken;
+          answered = r.answered;
+        }
         | inr x ↦ record { later = []; input = i; before = before; taken = refl; answered = x }
       ]
 
@@ -190,7 +204,8 @@ module _ (c : Catalog) (s : Settings) where
       let served = serves_all c s steps slot in
       let items = due c s w.journal slot in
       let here : Among items (item.Message bytes) =
-      shown_due items (w.slots slot).cuts bytes (among_front (w.slots slot).given served.in_order.0 (shown items (w.slots slot).cuts) (item.Message bytes) served.in_order.1 (from_contains (w.slots slot).given (item.Message bytes) x)) in
+      shown_due items (w.slots slot).cuts bytes (among_front (w.slots slot).given served.in_order.0 (shown items (w.slots slot).cuts)
+      (item.Message bytes) served.in_order.1 (from_contains (w.slots slot).given (item.Message bytes) x)) in
       let r = spelled_said V1 (told slot (all_answers c s w.journal)) bytes here in
       let o = of_input w.journal (slot, a.Says r.1) (told_answers slot (all_answers c s w.journal) (a.Says r.1) r.2) in
       record {

@@ -66,7 +66,8 @@ module _ (c : Catalog) (s : Settings) (role max : ℕ) (ch : Change) where
   old_is : (n : ℕ × Column) → Among (old_columns c role max ch) n → IsShown n
   old_is n h =
       let r =
-      among_filter_map (λ (m : ℕ × Column). some_if (writes ch.verb || not (is_secured c ch.table) || is_key_column c role max ch m.0) m) (shown_columns c role max ch) n h in
+      among_filter_map (λ (m : ℕ × Column). some_if (writes ch.verb || not (is_secured c ch.table) || is_key_column c role max ch m.0) m)
+      (shown_columns c role max ch) n h in
       let t = some_if_true (writes ch.verb || not (is_secured c ch.table) || is_key_column c role max ch r.0.0) r.0 n r.2 in
       subst IsShown t.1 (shown_is r.0 r.1)
 
@@ -87,7 +88,9 @@ module _ (c : Catalog) (s : Settings) (role max : ℕ) (ch : Change) where
   record_shows columns trees f =
       let fields = filter_map (field_of c role max ch trees) columns in
       let P : List Member → Type 0 = All (λ (m : Member). IsShownColumn c s role ch.table m.name) in
-      subst P (sym (object_members fields)) (all_from (λ (m : Member). IsShownColumn c s role ch.table m.name) fields (all_weaker (Among fields) (λ (m : Member). IsShownColumn c s role ch.table m.name) fields (shown_field columns trees f) (all_themselves fields)))
+      subst P (sym (object_members fields)) (all_from (λ (m : Member). IsShownColumn c s role ch.table m.name) fields
+      (all_weaker (Among fields) (λ (m : Member). IsShownColumn c s role ch.table m.name) fields (shown_field columns trees f)
+      (all_themselves fields)))
 
   -- a refusal has no record
   refused_none : (text part : List ℕ) → IsRecordName c s part → member_of (refused c role max ch text) part ≡ None
@@ -107,7 +110,8 @@ module _ (c : Catalog) (s : Settings) (role max : ℕ) (ch : Change) where
       head c role max ch ++ field (codes "commit_timestamp") moment ∷ field (codes "columns") columns ∷ ms ++ field (codes "errors") errors ∷ []
 
   shown_records : (v : Verb) (moment columns errors : Json)
-      → Shows (last_named (codes "record") (around moment columns errors (records c role max ch v))) × Shows (last_named (codes "old_record") (around moment columns errors (records c role max ch v)))
+      → Shows (last_named (codes "record") (around moment columns errors (records c role max ch v))) × Shows
+      (last_named (codes "old_record") (around moment columns errors (records c role max ch v)))
   shown_records Insert moment columns errors = (record_shows (shown_columns c role max ch) ch.new_trees shown_is, tt)
   shown_records Update moment columns errors =
       (record_shows (shown_columns c role max ch) ch.new_trees shown_is, record_shows (old_columns c role max ch) ch.old_trees old_is)
@@ -130,7 +134,8 @@ module _ (c : Catalog) (s : Settings) (role max : ℕ) (ch : Change) where
 
   -- where it shows a record, the change has its key and the role may SELECT it, and it shows only columns that the role may SELECT
   shape_case : (a b : Bool) → lacks_key ch ≡ a → hides_key c role ch ≡ b → (part : List ℕ) (tree : Json) → IsRecordName c s part
-      → member_of (cond a (refused c role max ch (codes "Error 400: Bad Request, no primary key")) (cond b (refused c role max ch (codes "Error 401: Unauthorized")) (whole c role max ch))) part ≡ Some tree
+      → member_of (cond a (refused c role max ch (codes "Error 400: Bad Request, no primary key"))
+      (cond b (refused c role max ch (codes "Error 401: Unauthorized")) (whole c role max ch))) part ≡ Some tree
       → (lacks_key ch ≡ false) × (hides_key c role ch ≡ false) × ShowsOnly c s role ch.table tree
   shape_case true b e f part tree name h = absurd (no_some _ tree (refused_none (codes "Error 400: Bad Request, no primary key") part name) h)
   shape_case false true e f part tree name h = absurd (no_some _ tree (refused_none (codes "Error 401: Unauthorized") part name) h)

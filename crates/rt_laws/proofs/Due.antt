@@ -60,7 +60,8 @@ message_said d (Some g) = said d g.1
 
 module _ (c : Catalog) (s : Settings) (st : Story) (h : Shaped st) (tables : List (List Row)) where
   abbrev Gets : Change → ℕ → ℕ → Subscription → Type 0
-  Gets ch slot role sub = Among (subscriptions (members_in st)) sub × (sub.slot ≡ slot) × (is_of_table c ch.table sub ≡ true) × (sub.role ≡ role) × (is_sent (verdict_of c (rows_of_table tables) sub ch) ≡ true)
+  Gets ch slot role sub = Among (subscriptions (members_in st)) sub × (sub.slot ≡ slot) × (is_of_table c ch.table sub ≡ true) × (sub.role ≡ role) ×
+      (is_sent (verdict_of c (rows_of_table tables) sub ch) ≡ true)
 
   -- a subscription of the channel is the member's own
   gets_own : (ch : Change) (m : Member) (sub : Subscription) → Among (members_in st) m → Among (subscriptions (members_in st)) sub
@@ -71,11 +72,18 @@ module _ (c : Catalog) (s : Settings) (st : Story) (h : Shaped st) (tables : Lis
       let found = among_flat subscriptions_of (members_in st) sub known in
       let g = found.0 in
       let made =
-      among_map (subscription_of g.channel.number g.channel.slot g.role g.claims) (enumerate_from g.channel.first_id g.channel.bindings) sub found.2 in
+      among_map (subscription_of g.channel.number g.channel.slot g.role g.claims)
+      (enumerate_from g.channel.first_id g.channel.bindings) sub found.2 in
       let number : g.channel.number ≡ m.channel.number =
       ap (λ (x : Subscription). x.channel) made.2 ∙ same_number sub.channel m.channel.number parts.0 in
-      let same : g ≡ m = same_member st g m h found.1 here number in
-      (known, ap (λ (x : Subscription). x.slot) (sym made.2) ∙ ap (λ (x : Member). x.channel.slot) same, parts.1, ap (λ (x : Subscription). x.role) (sym made.2) ∙ ap (λ (x : Member). x.role) same, parts.2)
+      let same : g ≡ m = same_member st g m h found.1 here number in (
+        known,
+        ap (λ (x : Subscription). x.slot) (sym made.2) ∙ ap (λ (x : Member). x.channel.slot) same,
+        parts.1,
+        ap (λ (x : Subscription). x.role)
+            (sym made.2) ∙ ap (λ (x : Member). x.role) same,
+        parts.2,
+      )
 
   -- what a message of a poll was due by
   record Told (changes : List Change) (slot : ℕ) (m : Message) : Type 0 where
@@ -131,13 +139,18 @@ module _ (c : Catalog) (s : Settings) (st : Story) (h : Shaped st) (tables : Lis
 
   change_tells : (changes : List Change) (slot : ℕ) (m : Message) (ch : Change) → Among changes ch → (p : Part) → answer_of p ≡ Some (slot, Says m)
       → (t : Bool)
-      → Among (elim t [ true ↦ [] | false ↦ flat_map (change_parts_to c s (subscriptions (members_in st)) tables ch) (map view_of (members_in st)) ]) p
+      → Among (elim t [
+        | true ↦ []
+        | false ↦ flat_map (change_parts_to c s (subscriptions (members_in st)) tables ch)
+            (map view_of (members_in st))
+      ]) p
       → Told changes slot m
   change_tells changes slot m ch a p e true x = absurd x
   change_tells changes slot m ch a p e false x = views_tell changes slot m ch a p e x
 
   poll_tells : (changes : List Change) (slot : ℕ) (m : Message)
-      → Among (filter_map answer_of (flat_map (change_parts_to_all c s (subscriptions (members_in st)) tables (map view_of (members_in st))) changes)) (slot, Says m)
+      → Among (filter_map answer_of (flat_map (change_parts_to_all c s (subscriptions (members_in st)) tables
+      (map view_of (members_in st))) changes)) (slot, Says m)
       → Told changes slot m
   poll_tells changes slot m x =
       let subs = subscriptions (members_in st) in
@@ -162,7 +175,8 @@ module _ (c : Catalog) (s : Settings) where
       → Told c s (story c s before) (story_shaped c s before) (left before changes) changes slot m
   unfolding answers_by doings poll_parts now_of
   told_of before changes slot m x =
-      poll_tells c s (story c s before) (story_shaped c s before) (left before changes) changes slot m (from_contains (answers c s before (Poll changes)) (slot, Says m) x)
+      poll_tells c s (story c s before) (story_shaped c s before) (left before changes) changes slot m
+      (from_contains (answers c s before (Poll changes)) (slot, Says m) x)
 
   due_of : (before : List Input) (changes : List Change) (slot : ℕ) (m : Message)
       → Told c s (story c s before) (story_shaped c s before) (left before changes) changes slot m → IsDueBy c s before changes slot m
@@ -181,7 +195,14 @@ module _ (c : Catalog) (s : Settings) where
         some = t.some;
         each = all_from (IsSentBy c s before changes t.change slot role) t.subs
             (all_weaker (Gets c s st h (left before changes) t.change slot role) (IsSentBy c s before changes t.change slot role) t.subs
-            (λ sub g. record { known = to_contains (subscriptions (members_in st)) sub g.0; own = g.1; table = g.2; of_role = g.3; sent = g.4 }) t.each);
+            (λ sub g. record {
+              known = to_contains (subscriptions
+                  (members_in st)) sub g.0;
+              own = g.1;
+              table = g.2;
+              of_role = g.3;
+              sent = g.4;
+            }) t.each);
         is = t.is;
         shows = λ part tree name e.
             let f = shape_shows c s role s.max_record t.change part tree name e in (
@@ -212,7 +233,10 @@ module _ (c : Catalog) (s : Settings) where
         due = due_of before changes slot m t;
         verdict = sent_verdict c t.member.role t.change;
         sent = sent_is (lacks_key t.change) (hides_key c t.member.role t.change);
-        same = all_from (λ (sub : Subscription). verdict_of c (rows_of_table (left before changes)) sub t.change ≡ sent_verdict c t.member.role t.change) t.subs
-            (all_weaker (Gets c s st h (left before changes) t.change slot t.member.role) (λ (sub : Subscription). verdict_of c (rows_of_table (left before changes)) sub t.change ≡ sent_verdict c t.member.role t.change) t.subs
+        same = all_from (λ (sub : Subscription). verdict_of c
+            (rows_of_table (left before changes)) sub t.change ≡ sent_verdict c t.member.role t.change) t.subs
+            (all_weaker (Gets c s st h (left before changes) t.change slot t.member.role)
+            (λ (sub : Subscription). verdict_of c (rows_of_table
+            (left before changes)) sub t.change ≡ sent_verdict c t.member.role t.change) t.subs
             (λ sub g. verdict_is (left before changes) st h t.change slot t.member.role sub g) t.each);
       }

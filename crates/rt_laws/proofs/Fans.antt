@@ -51,23 +51,27 @@ module _ (c : Catalog) (s : Settings) where
   marks_give (g ∷ gs) = ap (λ xs. g ∷ xs) (marks_give gs)
 
   lane_gives : (lane : ℕ) (gs : Answers)
-      → filter (is_in_lane s.workers lane) (flat_map (given_by c s) (map (entry_of c s) (of_lane c s lane gs))) ≡ filter (is_in_lane s.workers lane) gs
+      → filter (is_in_lane s.workers lane) (flat_map (given_by c s) (map (entry_of c s) (of_lane c s lane gs))) ≡ filter
+      (is_in_lane s.workers lane) gs
   lane_gives lane gs =
       ap (filter (is_in_lane s.workers lane)) (all_give (of_lane c s lane gs) ∙ marks_give (filter (is_in_lane s.workers lane) gs))
       ∙ kept_twice (is_in_lane s.workers lane) gs
 
   abbrev Answers_by : ℕ → Now → List (List Row) → Input → Type 0
   Answers_by lane now tables i =
-      filter (is_in_lane s.workers lane) (flat_map (given_by c s) (map (entry_of c s) (marks_by c s lane now tables i))) ≡ filter (is_in_lane s.workers lane) (answers_by c s now tables i)
+      filter (is_in_lane s.workers lane) (flat_map (given_by c s) (map (entry_of c s) (marks_by c s lane now tables i))) ≡ filter
+      (is_in_lane s.workers lane) (answers_by c s now tables i)
 
   input_answers : (lane : ℕ) (now : Now) (tables : List (List Row)) (i : Input) → Answers_by lane now tables i
   input_answers lane now tables (Poll changes) =
-      ap (filter (is_in_lane s.workers lane)) (append-nil (given_by c s (entry_of c s (batch now tables changes))) ∙ entries_give (batch now tables changes))
+      ap (filter (is_in_lane s.workers lane)) (append-nil (given_by c s (entry_of c s (batch now tables changes)))
+      ∙ entries_give (batch now tables changes))
   input_answers lane now tables Stop =
       let gs = answers_by c s now tables Stop in
       let marks = of_lane c s lane gs in
       ap (λ es. filter (is_in_lane s.workers lane) (flat_map (given_by c s) es)) (map-append (entry_of c s) marks (stop ∷ []))
-      ∙ ap (filter (is_in_lane s.workers lane)) (flat_map-append (given_by c s) (map (entry_of c s) marks) (map (entry_of c s) (stop ∷ [])) ∙ append-nil (flat_map (given_by c s) (map (entry_of c s) marks)))
+      ∙ ap (filter (is_in_lane s.workers lane)) (flat_map-append (given_by c s) (map (entry_of c s) marks) (map (entry_of c s) (stop ∷ []))
+      ∙ append-nil (flat_map (given_by c s) (map (entry_of c s) marks)))
       ∙ lane_gives lane gs
   input_answers lane now tables (Opened n v claims) = lane_gives lane (answers_by c s now tables (Opened n v claims))
   input_answers lane now tables (Frame n bytes) = lane_gives lane (answers_by c s now tables (Frame n bytes))
@@ -75,7 +79,8 @@ module _ (c : Catalog) (s : Settings) where
   input_answers lane now tables (Tick m) = lane_gives lane (answers_by c s now tables (Tick m))
 
   pub entries_answer : (before : List Input) (i : Input) (lane : ℕ)
-      → filter (is_in_lane s.workers lane) (flat_map (given_by c s) (map (entry_of c s) (marks_of c s lane before i))) ≡ filter (is_in_lane s.workers lane) (answers c s before i)
+      → filter (is_in_lane s.workers lane) (flat_map (given_by c s) (map (entry_of c s) (marks_of c s lane before i))) ≡ filter
+      (is_in_lane s.workers lane) (answers c s before i)
   unfolding marks_of
   entries_answer before i lane = input_answers lane (now_of (story c s before)) (tables_left c (story c s before) i) i
 
@@ -84,8 +89,11 @@ module _ (c : Catalog) (s : Settings) where
   marks_stay [] before lane = ([], sym (append-nil (lane_marks c s before lane)))
   marks_stay (i ∷ later) before lane =
       let found = marks_stay later before lane in
-      let more = marks_of c s lane (later ++ before) i in
-      (found.0 ++ more, lane_more c s (later ++ before) i lane ∙ ap (λ ms. ms ++ more) found.1 ∙ append_assoc (lane_marks c s before lane) found.0 more)
+      let more = marks_of c s lane (later ++ before) i in (
+        found.0 ++ more,
+        lane_more c s (later ++ before) i lane ∙ ap (λ ms. ms ++ more) found.1
+            ∙ append_assoc (lane_marks c s before lane) found.0 more,
+      )
 
   pub entries_stay : (later before : List Input) (i : Input) (lane : ℕ)
       → (rest : List Entry) × (map (entry_of c s) (lane_marks c s (later ++ i ∷ before) lane)
@@ -102,30 +110,36 @@ module _ (c : Catalog) (s : Settings) where
 
   -- the lane's part
   one_in_lane : (w lane : ℕ) (v : ChannelView) (ch : Change) (subs : List Subscription)
-      → filter (is_in_lane w lane) (filter_map answer_of (change_parts c s v ch subs)) ≡ cond (is_of_lane w lane v) (filter_map answer_of (change_parts c s v ch subs)) []
+      → filter (is_in_lane w lane) (filter_map answer_of (change_parts c s v ch subs)) ≡ cond (is_of_lane w lane v)
+      (filter_map answer_of (change_parts c s v ch subs)) []
   one_in_lane w lane v ch [] = let none : Answers = [] in elim (is_of_lane w lane v) as (λ b. none ≡ cond b none none) [ true ↦ refl | false ↦ refl ]
   one_in_lane w lane v ch (sub ∷ more) = refl
 
   one_view : (f : ChannelView → List Part) (v : ChannelView) (views : List ChannelView) (b : Bool)
-      → cond b (filter_map answer_of (f v)) [] ++ filter_map answer_of (flat_map f views) ≡ filter_map answer_of (flat_map f (cond b (v ∷ views) views))
+      → cond b (filter_map answer_of (f v)) [] ++ filter_map answer_of (flat_map f views) ≡ filter_map answer_of
+      (flat_map f (cond b (v ∷ views) views))
   one_view f v views true = sym (filter_map-append answer_of (f v) (flat_map f views))
   one_view f v views false = refl
 
   views_in_lane : (w lane : ℕ) (subs : List Subscription) (tables : List (List Row)) (ch : Change) (views : List ChannelView)
-      → filter (is_in_lane w lane) (filter_map answer_of (flat_map (change_parts_to c s subs tables ch) views)) ≡ filter_map answer_of (flat_map (change_parts_to c s subs tables ch) (filter (is_of_lane w lane) views))
+      → filter (is_in_lane w lane) (filter_map answer_of (flat_map (change_parts_to c s subs tables ch) views)) ≡ filter_map answer_of
+      (flat_map (change_parts_to c s subs tables ch) (filter (is_of_lane w lane) views))
   views_in_lane w lane subs tables ch [] = refl
   views_in_lane w lane subs tables ch (v ∷ views) =
       let f = change_parts_to c s subs tables ch in
       ap (filter (is_in_lane w lane)) (filter_map-append answer_of (f v) (flat_map f views))
       ∙ filter-append (is_in_lane w lane) (filter_map answer_of (f v)) (filter_map answer_of (flat_map f views))
-      ∙ ap (λ xs. xs ++ filter (is_in_lane w lane) (filter_map answer_of (flat_map f views))) (one_in_lane w lane v ch (filter (gets c s tables ch v.channel) subs))
+      ∙ ap (λ xs. xs ++ filter (is_in_lane w lane) (filter_map answer_of (flat_map f views)))
+      (one_in_lane w lane v ch (filter (gets c s tables ch v.channel) subs))
       ∙ ap (λ xs. cond (is_of_lane w lane v) (filter_map answer_of (f v)) [] ++ xs) (views_in_lane w lane subs tables ch views)
       ∙ one_view f v (filter (is_of_lane w lane) views) (is_of_lane w lane v)
 
   change_in_lane : (w lane : ℕ) (subs : List Subscription) (tables : List (List Row)) (views : List ChannelView) (ch : Change)
-      → filter (is_in_lane w lane) (filter_map answer_of (change_parts_to_all c s subs tables views ch)) ≡ filter_map answer_of (change_parts_to_all c s subs tables (filter (is_of_lane w lane) views) ch)
+      → filter (is_in_lane w lane) (filter_map answer_of (change_parts_to_all c s subs tables views ch)) ≡ filter_map answer_of
+      (change_parts_to_all c s subs tables (filter (is_of_lane w lane) views) ch)
   change_in_lane w lane subs tables views ch =
-      elim (is_truncate ch.verb) as (λ b. filter (is_in_lane w lane) (filter_map answer_of (elim b [ true ↦ [] | false ↦ flat_map (change_parts_to c s subs tables ch) views ]))
+      elim (is_truncate ch.verb) as (λ b. filter (is_in_lane w lane)
+      (filter_map answer_of (elim b [ true ↦ [] | false ↦ flat_map (change_parts_to c s subs tables ch) views ]))
       ≡ filter_map answer_of (elim b [ true ↦ [] | false ↦ flat_map (change_parts_to c s subs tables ch) (filter (is_of_lane w lane) views) ])) [
         | true ↦ refl
         | false ↦ views_in_lane w lane subs tables ch views
@@ -145,6 +159,7 @@ module _ (c : Catalog) (s : Settings) where
       ∙ sym (filter_map-append answer_of (g ch) (flat_map g more))
 
   pub lane_fans : (lane : ℕ) (subs : List Subscription) (tables : List (List Row)) (views : List ChannelView) (changes : List Change)
-      → filter (is_in_lane s.workers lane) (fan c s subs tables views changes) ≡ fan c s subs tables (filter (is_of_lane s.workers lane) views) changes
+      → filter (is_in_lane s.workers lane) (fan c s subs tables views changes) ≡ fan c s subs tables
+      (filter (is_of_lane s.workers lane) views) changes
   unfolding fan poll_parts
   lane_fans lane subs tables views changes = changes_in_lane s.workers lane subs tables views changes

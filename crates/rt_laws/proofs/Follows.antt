@@ -33,8 +33,10 @@ use Rattle.rt_laws.proofs.Tracked.{Apart}
 use Rattle.rt_laws.proofs.Hears.{hears}
 use Rattle.rt_laws.proofs.Turns.{IsMute, Turns, turns_then, turns_mute, turns_each, turns_fail, turns_end, shown_still}
 
-module _ (now : Now) (h : Member) (in_members : Among now.members h) (rises : RisingMembers now.members) (apart : AreApart now.members) (enabled : h.channel.presence ≡ true)
-    (chans : Apart (λ (t : Track). t.channel) now.tracks) (refs : Apart (λ (t : Track). t.reference) now.tracks) (small : AllOf (λ (t : Track). t.reference < 2 ^ 64) now.tracks) where
+module _ (now : Now) (h : Member) (in_members : Among now.members h) (rises : RisingMembers now.members) (apart : AreApart now.members)
+    (enabled : h.channel.presence ≡ true)
+    (chans : Apart (λ (t : Track). t.channel) now.tracks) (refs : Apart (λ (t : Track). t.reference) now.tracks)
+    (small : AllOf (λ (t : Track). t.reference < 2 ^ 64) now.tracks) where
   abbrev pub Turn : List Part → List ℕ → Type 0
   Turn ps gone = Turns now h in_members rises apart enabled chans refs small ps gone
 
@@ -56,16 +58,25 @@ module _ (now : Now) (h : Member) (in_members : Among now.members h) (rises : Ri
       let ended = end_if_open now slot end_name.Replaced (opening_in now slot) in
       let rest = Opens slot o ∷ (if now.stopped then Ends slot end_name.Stopped ∷ [] else []) in
       then_turn ended rest [] (end_if_turn slot end_name.Replaced (opening_in now slot))
-      (mute_turn rest (departed_in ended ++ []) (tt, elim now.stopped as (λ t. AllOf IsMute (if t then Ends slot end_name.Stopped ∷ [] else [])) [ true ↦ (tt, tt) | false ↦ tt ]))
+      (mute_turn rest (departed_in ended ++ []) (
+        tt,
+        elim now.stopped as
+            (λ t. AllOf IsMute (if t then Ends slot end_name.Stopped ∷ [] else [])) [ true ↦ (tt, tt) | false ↦ tt ],
+      ))
 
   tick_turn : (moment : ℕ) (gone : List ℕ) (x : ℕ × Option Opening) → Turn (tick_parts now moment gone x) gone
   tick_turn moment gone (slot, None) = mute_turn [] gone tt
   tick_turn moment gone (slot, Some o) =
       let ended = filter (has_run_out moment) (channels_of now slot) in
       let reason = codes "token expired" in
-      elim (is_idle moment o) as (λ t. Turn (elim t [ true ↦ end_of now gone slot end_name.Idle | false ↦ in_turn (fail now reason) gone ended ]) gone) [
+      elim (is_idle moment o) as (λ t. Turn (elim t [
+        | true ↦ end_of now gone slot end_name.Idle
+        | false ↦ in_turn
+            (fail now reason) gone ended
+      ]) gone) [
         | true ↦ end_turn gone slot end_name.Idle
-        | false ↦ turns_each now h in_members rises apart enabled chans refs small (fail now reason) (λ g. ⊤) (λ x g t. turns_fail now h in_members rises apart enabled chans refs small reason x g) gone ended (all_every (λ g. ⊤) ended (λ g. tt))
+        | false ↦ turns_each now h in_members rises apart enabled chans refs small (fail now reason) (λ g. ⊤)
+            (λ x g t. turns_fail now h in_members rises apart enabled chans refs small reason x g) gone ended (all_every (λ g. ⊤) ended (λ g. tt))
       ]
 
   module _ (c : Catalog) (s : Settings) where
@@ -88,9 +99,11 @@ module _ (now : Now) (h : Member) (in_members : Among now.members h) (rises : Ri
     outside_turn tables (Poll changes) k =
         let subs = subscriptions now.members in
         let views = map view_of now.members in
-        mute_turn (flat_map (change_parts_to_all c s subs tables views) changes) [] (all_flat IsMute (change_parts_to_all c s subs tables views) changes (mute_changes subs tables views))
+        mute_turn (flat_map (change_parts_to_all c s subs tables views) changes) []
+        (all_flat IsMute (change_parts_to_all c s subs tables views) changes (mute_changes subs tables views))
     outside_turn tables (Tick m) k =
-        turns_each now h in_members rises apart enabled chans refs small (tick_parts now m) (λ x. ⊤) (λ g x t. tick_turn m g x) [] (enumerate_from 0 now.opens) (all_every (λ x. ⊤) (enumerate_from 0 now.opens) (λ x. tt))
+        turns_each now h in_members rises apart enabled chans refs small (tick_parts now m) (λ x. ⊤) (λ g x t. tick_turn m g x) []
+        (enumerate_from 0 now.opens) (all_every (λ x. ⊤) (enumerate_from 0 now.opens) (λ x. tt))
     outside_turn tables (Frame slot bytes) k = absurd k
     outside_turn tables Stop k = absurd k
 
@@ -110,10 +123,12 @@ module _ (now : Now) (h : Member) (in_members : Among now.members h) (rises : Ri
       let P : List Held → Type 0 = Moves held in
       let Q : List Held → Type 0 = Moves (client_view held (hears h.channel ps)) in
       let none_gone : filter (λ (u : Track). not (has u.channel [])) now.tracks ≡ now.tracks =
-      filter_all (λ (u : Track). not (has u.channel [])) now.tracks (all_every (λ (u : Track). not (has u.channel []) ≡ true) now.tracks (λ u. refl)) in
+      filter_all (λ (u : Track). not (has u.channel [])) now.tracks
+      (all_every (λ (u : Track). not (has u.channel []) ≡ true) now.tracks (λ u. refl)) in
       let first : shown_still now h in_members rises apart enabled chans refs small [] ≡ map shown_meta (filter on now.tracks) =
       ap (λ (ts : List Track). map shown_meta (filter on ts)) none_gone in
-      let last : map shown_meta (filter on (filter (λ (u : Track). not (has u.channel (ds ++ []))) now.tracks)) ≡ map shown_meta (filter on (tracks_after now.tracks ps)) =
+      let last : map shown_meta (filter on (filter (λ (u : Track). not (has u.channel (ds ++ []))) now.tracks)) ≡ map shown_meta
+      (filter on (tracks_after now.tracks ps)) =
       ap (λ (ts : List Track). map shown_meta (filter on ts))
       (ap (λ (xs : List ℕ). filter (λ (u : Track). not (has u.channel xs)) now.tracks) (append-nil ds)
       ∙ sym (append-nil (filter (λ (u : Track). not (has u.channel ds)) now.tracks))

@@ -59,9 +59,12 @@ or_first : (x y : Bool) → (x || y) ≡ false → x ≡ false
 or_first true y e = absurd (cc)
 or_first false y e = refl
 
-module _ (now : Now) (h : Member) (in_members : Among now.members h) (rises : RisingMembers now.members) (apart : AreApart now.members) (enabled : h.channel.presence ≡ true)
-    (chans : Apart (λ (t : Track). t.channel) now.tracks) (refs : Apart (λ (t : Track). t.reference) now.tracks) (small : AllOf (λ (t : Track). t.reference < 2 ^ 64) now.tracks)
-    (below : AllOf (Below now.number) now.members) (earlier : AllOf (λ (t : Track). t.reference < now.number) now.tracks) (short : now.number < 2 ^ 64)
+module _ (now : Now) (h : Member) (in_members : Among now.members h) (rises : RisingMembers now.members) (apart : AreApart now.members)
+    (enabled : h.channel.presence ≡ true)
+    (chans : Apart (λ (t : Track). t.channel) now.tracks) (refs : Apart (λ (t : Track). t.reference) now.tracks)
+    (small : AllOf (λ (t : Track). t.reference < 2 ^ 64) now.tracks)
+    (below : AllOf (Below now.number) now.members) (earlier : AllOf (λ (t : Track). t.reference < now.number) now.tracks)
+    (short : now.number < 2 ^ 64)
     (topics : (t : Track) (g : Member) → Among now.tracks t → Among now.members g → g.channel.number ≡ t.channel → g.channel.topic ≡ t.topic) where
   abbrev ThisTurn : List Part → Type 0
   ThisTurn ps = Turn now h in_members rises apart enabled chans refs small ps []
@@ -95,12 +98,18 @@ module _ (now : Now) (h : Member) (in_members : Among now.members h) (rises : Ri
   -- a message to another place isn't heard
   unheard_view : (held : List Held) (slot : ℕ) (m : Message) (ps : List Part) → ((slot == h.channel.slot) && bytes_eq m.topic h.channel.topic) ≡ false
       → client_view held (hears h.channel (Tells slot m ∷ ps)) ≡ client_view held (hears h.channel ps)
-  unheard_view held slot m ps e = ap (λ (b : Bool). client_view held (cons_option (elim b as (λ x. Option Message) [ true ↦ Some m | false ↦ None ]) (hears h.channel ps))) e
+  unheard_view held slot m ps e = ap (λ (b : Bool). client_view held
+      (cons_option (elim b as (λ x. Option Message) [ true ↦ Some m | false ↦ None ]) (hears h.channel ps))) e
 
   unheard_turn : (b : Bool) (slot : ℕ) (m : Message) (gone : List ℕ) → ((slot == h.channel.slot) && bytes_eq m.topic h.channel.topic) ≡ false
       → Turn now h in_members rises apart enabled chans refs small (tell_if b slot m) gone
   unheard_turn true slot m gone e =
-      record { tracks = refl; holds = λ held stays mv. let P : List Held → Type 0 = λ x. Moves x (shown_still now h in_members rises apart enabled chans refs small gone) in subst P (sym (unheard_view held slot m [] e)) mv }
+      record {
+        tracks = refl;
+        holds = λ held stays mv.
+            let P : List Held → Type 0 = λ x. Moves x (shown_still now h in_members rises apart enabled chans refs small gone) in
+            subst P (sym (unheard_view held slot m [] e)) mv;
+      }
   unheard_turn false slot m gone e = record { tracks = refl; holds = λ held stays mv. mv }
 
   -- a join
@@ -110,7 +119,8 @@ module _ (now : Now) (h : Member) (in_members : Among now.members h) (rises : Ri
   closing_turn : (slot : ℕ) (topic : List ℕ) → ThisTurn (closing slot topic)
   closing_turn slot topic =
       let former = option_to_list (channel_on now slot topic) in
-      turns_each now h in_members rises apart enabled chans refs small (close now) (λ g. ⊤) (λ x g t. turns_close now h in_members rises apart enabled chans refs small x g) [] former (all_every (λ g. ⊤) former (λ g. tt))
+      turns_each now h in_members rises apart enabled chans refs small (close now) (λ g. ⊤)
+      (λ x g t. turns_close now h in_members rises apart enabled chans refs small x g) [] former (all_every (λ g. ⊤) former (λ g. tt))
 
   elsewhere : (slot : ℕ) (topic : List ℕ) (rest : List Part) → has h.channel.number (departed_in (closing slot topic ++ rest)) ≡ false
       → ((slot == h.channel.slot) && bytes_eq topic h.channel.topic) ≡ false
@@ -123,7 +133,9 @@ module _ (now : Now) (h : Member) (in_members : Among now.members h) (rises : Ri
         let gone : has n (departed_in (closing slot topic)) ≡ true =
         room now below apart slot topic h in_members (sym (same_number slot h.channel.slot e)) (sym ((bytes_eq-Decides topic h.channel.topic).0 f)) in
         let kept : has n (departed_in (closing slot topic)) ≡ false =
-        or_first (has n (departed_in (closing slot topic))) (has n (departed_in rest)) (sym (ap (has n) (filter_map-append departed_by (closing slot topic) rest) ∙ any_append (λ j. j == n) (departed_in (closing slot topic)) (departed_in rest)) ∙ stays) in
+        or_first (has n (departed_in (closing slot topic))) (has n (departed_in rest))
+        (sym (ap (has n) (filter_map-append departed_by (closing slot topic) rest)
+        ∙ any_append (λ j. j == n) (departed_in (closing slot topic)) (departed_in rest)) ∙ stays) in
         absurd (let k : true ≡ false = sym gone ∙ kept in cc)
 
   holds_result : (slot : ℕ) (gone : List ℕ) (m : Message) (r : Checked Channel) → IsMade now.number slot m.topic r
@@ -137,15 +149,20 @@ module _ (now : Now) (h : Member) (in_members : Among now.members h) (rises : Ri
       let quiet = Joins ch ∷ (tell ch.slot ok ++ subscribed) in
       let gone1 = departed_in front ++ [] in
       let away : ((ch.slot == h.channel.slot) && bytes_eq ch.topic h.channel.topic) ≡ false =
-      ap (λ (n : ℕ). (n == h.channel.slot) && bytes_eq ch.topic h.channel.topic) made.1 ∙ ap (λ (tp : List ℕ). (slot == h.channel.slot) && bytes_eq tp h.channel.topic) made.2 ∙ elsewhere slot m.topic (accept_parts now gone m ch) stays in
+      ap (λ (n : ℕ). (n == h.channel.slot) && bytes_eq ch.topic h.channel.topic) made.1
+      ∙ ap (λ (tp : List ℕ). (slot == h.channel.slot) && bytes_eq tp h.channel.topic) made.2
+      ∙ elsewhere slot m.topic (accept_parts now gone m ch) stays in
       let last = then_turn now h in_members rises apart enabled chans refs small quiet state gone1
-      (mute_turn now h in_members rises apart enabled chans refs small quiet gone1 (tt, ((refl, refl), mute_tell_if (has_bindings ch) ch.slot (subscribed_message ch) ((refl, refl), tt))))
+      (mute_turn now h in_members rises apart enabled chans refs small quiet gone1
+      (tt, ((refl, refl), mute_tell_if (has_bindings ch) ch.slot (subscribed_message ch) ((refl, refl), tt))))
       (unheard_turn ch.presence ch.slot said (departed_in quiet ++ gone1) away) in
-      holds_by (front ++ (quiet ++ state)) (then_turn now h in_members rises apart enabled chans refs small front (quiet ++ state) [] (closing_turn slot m.topic) last) held stays mv
+      holds_by (front ++ (quiet ++ state)) (then_turn now h in_members rises apart enabled chans refs small front (quiet ++ state) []
+      (closing_turn slot m.topic) last) held stays mv
   holds_result slot gone m (Err why) made held stays mv =
       let front = closing slot m.topic in
       let rest = tell slot (reply_error m.join_ref m why) in
-      holds_by (front ++ rest) (then_turn now h in_members rises apart enabled chans refs small front rest [] (closing_turn slot m.topic) (mute_turn now h in_members rises apart enabled chans refs small rest (departed_in front ++ []) ((refl, refl), tt))) held stays mv
+      holds_by (front ++ rest) (then_turn now h in_members rises apart enabled chans refs small front rest [] (closing_turn slot m.topic)
+      (mute_turn now h in_members rises apart enabled chans refs small rest (departed_in front ++ []) ((refl, refl), tt))) held stays mv
 
   -- a track
 
@@ -154,7 +171,8 @@ module _ (now : Now) (h : Member) (in_members : Among now.members h) (rises : Ri
       → AllOf (λ (u : Track). (u.reference < 2 ^ 64)) olds
       → ((u : Track) → Among now.tracks u → (t.channel == u.channel) ≡ true → on u ≡ on t)
       → Moves held (map shown_meta (filter on now.tracks))
-      → Moves (client_view held (elim b as (λ x. List Message) [ true ↦ presence_diff h.channel (t ∷ []) olds ∷ [] | false ↦ [] ])) (map shown_meta (filter on (after_with now h in_members rises apart enabled chans refs small [] ((t.channel, Some t) ∷ []))))
+      → Moves (client_view held (elim b as (λ x. List Message) [ true ↦ presence_diff h.channel (t ∷ []) olds ∷ [] | false ↦ [] ]))
+      (map shown_meta (filter on (after_with now h in_members rises apart enabled chans refs small [] ((t.channel, Some t) ∷ []))))
   track_view t olds held true k ref same fresh fits topic m =
       let q : Track → Bool = λ u. not (leaves_in olds u) in
       let r : Track → Bool = λ u. not ((t.channel == u.channel) || false) && not false in
@@ -176,7 +194,8 @@ module _ (now : Now) (h : Member) (in_members : Among now.members h) (rises : Ri
       filter-append q x (t ∷ []) ∙ ap (λ ys. ys ++ filter q (t ∷ [])) old ∙ ap (λ ys. filter on (filter r now.tracks) ++ ys) new
       ∙ sym (filter-append on (filter r now.tracks) (t ∷ [])) in
       then_to done (map shown_meta (filter q (x ++ t ∷ []))) (map shown_meta (filter on (filter r now.tracks ++ t ∷ [])))
-      (reads_difference h.channel held x (t ∷ []) olds (fit_of olds fits) all m) (moves_same (map shown_meta (filter q (x ++ t ∷ []))) (map shown_meta (filter on (filter r now.tracks ++ t ∷ []))) (ap (map shown_meta) is))
+      (reads_difference h.channel held x (t ∷ []) olds (fit_of olds fits) all m)
+      (moves_same (map shown_meta (filter q (x ++ t ∷ []))) (map shown_meta (filter on (filter r now.tracks ++ t ∷ []))) (ap (map shown_meta) is))
     where
       with_or : (z o : Bool) → (o && not z) ≡ ((not (z || false) && not false) && o)
       with_or true true = refl
@@ -192,7 +211,8 @@ module _ (now : Now) (h : Member) (in_members : Among now.members h) (rises : Ri
       let off : on t ≡ false = on_turn now h in_members rises apart enabled chans refs small t false k in
       let is : filter on now.tracks ≡ filter on (filter r now.tracks ++ t ∷ []) =
       filter_alike on (λ u. r u && on u) now.tracks
-      (all_weaker (Among now.tracks) (λ (u : Track). on u ≡ (r u && on u)) now.tracks (λ u i. off_test (t.channel == u.channel) (on u) (λ e. topic u i e ∙ off)) (all_themselves now.tracks))
+      (all_weaker (Among now.tracks) (λ (u : Track). on u ≡ (r u && on u)) now.tracks
+      (λ u i. off_test (t.channel == u.channel) (on u) (λ e. topic u i e ∙ off)) (all_themselves now.tracks))
       ∙ filter_and on r now.tracks ∙ sym (append-nil (filter on (filter r now.tracks)))
       ∙ ap (λ ys. filter on (filter r now.tracks) ++ ys) (sym (ap (λ (z : Bool). cond z (t ∷ []) []) off))
       ∙ sym (filter-append on (filter r now.tracks) (t ∷ [])) in
@@ -217,11 +237,13 @@ module _ (now : Now) (h : Member) (in_members : Among now.members h) (rises : Ri
 
   olds_same : (t : Track) (o : Option Track) → track_of now t.channel ≡ o
       → AllOf (λ (u : Track). leaves_in (option_to_list o) u ≡ (t.channel == u.channel)) now.tracks
-  olds_same t None e = all_weaker (λ (u : Track). (u.channel == t.channel) ≡ false) (λ (u : Track). false ≡ (t.channel == u.channel)) now.tracks (λ u f. sym (eqb_turn t.channel u.channel ∙ f)) (none_found t.channel now.tracks e)
+  olds_same t None e = all_weaker (λ (u : Track). (u.channel == t.channel) ≡ false) (λ (u : Track). false ≡ (t.channel == u.channel)) now.tracks
+      (λ u f. sym (eqb_turn t.channel u.channel ∙ f)) (none_found t.channel now.tracks e)
   olds_same t (Some o) e =
       let f = one_found t.channel now.tracks o e in
       all_weaker (Among now.tracks) (λ (u : Track). leaves_in (o ∷ []) u ≡ (t.channel == u.channel)) now.tracks
-      (λ u i. ap (λ (z : Bool). z || false) (of_one now h in_members rises apart enabled chans refs small t.channel o u f.0 i (same_number o.channel t.channel f.1)) ∙ or_none (t.channel == u.channel)) (all_themselves now.tracks) where
+      (λ u i. ap (λ (z : Bool). z || false) (of_one now h in_members rises apart enabled chans refs small t.channel o u f.0 i
+      (same_number o.channel t.channel f.1)) ∙ or_none (t.channel == u.channel)) (all_themselves now.tracks) where
         or_none : (z : Bool) → (z || false) ≡ z
         or_none true = refl
         or_none false = refl
@@ -246,21 +268,30 @@ module _ (now : Now) (h : Member) (in_members : Among now.members h) (rises : Ri
       let ms = filter (watches [] g.channel.topic) now.members in
       let none : tracks_in ds ≡ [] = no_track_parts (t ∷ []) olds ms in
       let gone : departed_in ds ≡ [] = no_departures (t ∷ []) olds ms in
-      let said : hears h.channel ds ≡ elim (bytes_eq h.channel.topic g.channel.topic) as (λ x. List Message) [ true ↦ presence_diff h.channel (t ∷ []) olds ∷ [] | false ↦ [] ] =
+      let said : hears h.channel ds ≡ elim (bytes_eq h.channel.topic g.channel.topic) as
+      (λ x. List Message) [ true ↦ presence_diff h.channel (t ∷ []) olds ∷ [] | false ↦ [] ] =
       hears_own now h in_members rises apart enabled [] g.channel.topic (t ∷ []) olds refl in
       let moved =
-      track_view t olds held (bytes_eq h.channel.topic g.channel.topic) refl refl (olds_same t (track_of now n) refl) (olds_fresh t n (track_of now n) refl refl) (olds_fit n (track_of now n) refl)
+      track_view t olds held (bytes_eq h.channel.topic g.channel.topic) refl refl (olds_same t (track_of now n) refl)
+      (olds_fresh t n (track_of now n) refl refl) (olds_fit n (track_of now n) refl)
       (λ u i e. ap (λ (tp : List ℕ). bytes_eq tp h.channel.topic) (sym (topics u g i here (same_number n u.channel e)))) mv in
-      let P : List Message → Type 0 = λ xs. Moves (client_view held xs) (map shown_meta (filter on (after_with now h in_members rises apart enabled chans refs small [] ((n, Some t) ∷ [])))) in
-      let Q : List Held → Type 0 = λ x. Moves x (map shown_meta (filter on (after_with now h in_members rises apart enabled chans refs small [] ((n, Some t) ∷ [])))) in
-      let R : List ℕ → Type 0 = λ xs. Moves (client_view held (hears h.channel (track_parts now g.channel m t))) (map shown_meta (filter on (after_with now h in_members rises apart enabled chans refs small xs ((n, Some t) ∷ [])))) in
-      let S : List (ℕ × Option Track) → Type 0 = λ xs. Moves (client_view held (hears h.channel (track_parts now g.channel m t))) (map shown_meta (filter on (after_with now h in_members rises apart enabled chans refs small (departed_in ds) ((n, Some t) ∷ xs)))) in
+      let P : List Message → Type 0 = λ xs. Moves (client_view held xs)
+      (map shown_meta (filter on (after_with now h in_members rises apart enabled chans refs small [] ((n, Some t) ∷ [])))) in
+      let Q : List Held → Type 0 = λ x. Moves x (map shown_meta
+      (filter on (after_with now h in_members rises apart enabled chans refs small [] ((n, Some t) ∷ [])))) in
+      let R : List ℕ → Type 0 = λ xs. Moves (client_view held (hears h.channel (track_parts now g.channel m t)))
+      (map shown_meta (filter on (after_with now h in_members rises apart enabled chans refs small xs ((n, Some t) ∷ [])))) in
+      let S : List (ℕ × Option Track) → Type 0 = λ xs. Moves (client_view held (hears h.channel (track_parts now g.channel m t)))
+      (map shown_meta (filter on (after_with now h in_members rises apart enabled chans refs small (departed_in ds) ((n, Some t) ∷ xs)))) in
       subst S (sym none) (subst R (sym gone) (subst Q (sym (behind held g m (Tracks t ∷ ds))) (subst P (sym said) moved)))
 
   untrack_is : (n : ℕ)
-      → filter (λ (u : Track). not (has u.channel (n ∷ []))) now.tracks ≡ filter (λ (u : Track). is_last u.channel ((n, None) ∷ []) && not (has u.channel [])) now.tracks
+      → filter (λ (u : Track). not (has u.channel (n ∷ []))) now.tracks ≡ filter
+      (λ (u : Track). is_last u.channel ((n, None) ∷ []) && not (has u.channel [])) now.tracks
   untrack_is n =
-      filter_alike (λ u. not ((n == u.channel) || false)) (λ u. not ((n == u.channel) || false) && not false) now.tracks (all_every (λ (u : Track). not ((n == u.channel) || false) ≡ (not ((n == u.channel) || false) && not false)) now.tracks (λ u. and_yes (n == u.channel)))
+      filter_alike (λ u. not ((n == u.channel) || false)) (λ u. not ((n == u.channel) || false) && not false) now.tracks
+      (all_every (λ (u : Track). not ((n == u.channel) || false) ≡ (not ((n == u.channel) || false) && not false)) now.tracks
+      (λ u. and_yes (n == u.channel)))
 
   holds_untrack : (g : Member) (m : Message) (o : Option Track) → track_of now g.channel.number ≡ o
       → Holds (reply g m ∷ (untrack_part g.channel.number o ++ leave_diffs now [] o))
@@ -272,15 +303,18 @@ module _ (now : Now) (h : Member) (in_members : Among now.members h) (rises : Ri
       let none : tracks_in ds ≡ [] = no_track_parts [] (t ∷ []) ms in
       let gone : departed_in ds ≡ [] = no_departures [] (t ∷ []) ms in
       let all : filter (λ (u : Track). not (has u.channel [])) now.tracks ≡ now.tracks =
-      filter_all (λ (u : Track). not (has u.channel [])) now.tracks (all_every (λ (u : Track). not (has u.channel []) ≡ true) now.tracks (λ u. refl)) in
+      filter_all (λ (u : Track). not (has u.channel [])) now.tracks
+      (all_every (λ (u : Track). not (has u.channel []) ≡ true) now.tracks (λ u. refl)) in
       let P0 : List Track → Type 0 = λ us. Moves held (map shown_meta (filter on us)) in
       let moved = leave_view now h in_members rises apart enabled chans refs small [] n (Some t) held e (subst P0 (sym all) mv) in
-      let after : List ℕ → List (ℕ × Option Track) → List Held = λ xs ys. map shown_meta (filter on (after_with now h in_members rises apart enabled chans refs small xs ys)) in
+      let after : List ℕ → List (ℕ × Option Track) → List Held = λ xs ys. map shown_meta
+      (filter on (after_with now h in_members rises apart enabled chans refs small xs ys)) in
       let said = hears_own now h in_members rises apart enabled [] t.topic [] (t ∷ []) refl in
       let whole = hears h.channel (reply g m ∷ (Untracks n ∷ ds)) in
       let P1 : List Track → Type 0 = λ us. Moves (client_view held (leave_for h.channel (Some t))) (map shown_meta (filter on us)) in
       let here : Moves (client_view held (leave_for h.channel (Some t))) (after [] ((n, None) ∷ [])) =
-      subst P1 (untrack_is n ∙ sym (append-nil (filter (λ (u : Track). is_last u.channel ((n, None) ∷ []) && not (has u.channel [])) now.tracks))) moved in
+      subst P1 (untrack_is n ∙ sym (append-nil (filter (λ (u : Track). is_last u.channel ((n, None) ∷ []) && not
+      (has u.channel [])) now.tracks))) moved in
       let P : List Message → Type 0 = λ xs. Moves (client_view held xs) (after [] ((n, None) ∷ [])) in
       let Q : List Held → Type 0 = λ x. Moves x (after [] ((n, None) ∷ [])) in
       let R : List ℕ → Type 0 = λ xs. Moves (client_view held whole) (after xs ((n, None) ∷ [])) in
@@ -294,7 +328,8 @@ module _ (now : Now) (h : Member) (in_members : Among now.members h) (rises : Ri
   holds_leave : (g : Member) (m : Message) → Holds (reply g m ∷ close now [] g)
   holds_leave g m =
       holds_by (reply g m ∷ close now [] g) (then_turn now h in_members rises apart enabled chans refs small (reply g m ∷ []) (close now [] g) []
-      (mute_turn now h in_members rises apart enabled chans refs small (reply g m ∷ []) [] (mute_reply g m)) (turns_close now h in_members rises apart enabled chans refs small [] g))
+      (mute_turn now h in_members rises apart enabled chans refs small (reply g m ∷ []) [] (mute_reply g m))
+      (turns_close now h in_members rises apart enabled chans refs small [] g))
 
   mute_broadcast : (ch : Channel) (m : Message) → AllOf IsMute (broadcast_parts now ch m)
   mute_broadcast ch m =
@@ -304,7 +339,8 @@ module _ (now : Now) (h : Member) (in_members : Among now.members h) (rises : Ri
 
   found : (slot : ℕ) (topic : List ℕ) → Maybe (Among now.members) (channel_on now slot topic)
   found slot topic =
-      find_of (Among now.members) (λ m. is_on topic m.channel) (channels_of now slot) (all_filter (Among now.members) (is_of_slot slot) now.members (all_themselves now.members))
+      find_of (Among now.members) (λ m. is_on topic m.channel) (channels_of now slot)
+      (all_filter (Among now.members) (is_of_slot slot) now.members (all_themselves now.members))
 
   module _ (c : Catalog) (s : Settings) where
     holds_ask : (o : Opening) (g : Member) (m : Message) (k : Ask) → Among now.members g → Holds (ask_parts c s now o g m k)
@@ -329,16 +365,19 @@ module _ (now : Now) (h : Member) (in_members : Among now.members h) (rises : Ri
     holds_join slot o m =
         let former = option_to_list (channel_on now slot m.topic) in
         by_case (is_channel_topic m.topic) (join_over_former c s now slot o m former) (tell slot (reply_error m.join_ref m (codes "unmatched topic")))
-        (holds_result slot (map (λ (g : Member). g.channel.number) former) m (channel_of_join c s now slot o (others now slot m.topic) m) (join_made now below apart c s slot o (others now slot m.topic) m))
+        (holds_result slot (map (λ (g : Member). g.channel.number) former) m (channel_of_join c s now slot o (others now slot m.topic) m)
+        (join_made now below apart c s slot o (others now slot m.topic) m))
         (holds_mute (tell slot (reply_error m.join_ref m (codes "unmatched topic"))) ((refl, refl), tt))
 
     holds_message : (slot : ℕ) (o : Opening) (m : Option Message) → Holds (message_parts c s now slot o m)
     holds_message slot o None =
         holds_by (end_of now [] slot end_name.BadFrame) (end_turn now h in_members rises apart enabled chans refs small [] slot end_name.BadFrame)
     holds_message slot o (Some m) =
-        by_test (is_heartbeat m) (tell slot (reply_ok m.join_ref m no_members)) (if is_join m then join_parts c s now slot o m else channel_parts c s now slot o m (channel_on now slot m.topic))
+        by_test (is_heartbeat m) (tell slot (reply_ok m.join_ref m no_members))
+        (if is_join m then join_parts c s now slot o m else channel_parts c s now slot o m (channel_on now slot m.topic))
         (holds_mute (tell slot (reply_ok m.join_ref m no_members)) ((refl, refl), tt))
-        (by_test (is_join m) (join_parts c s now slot o m) (channel_parts c s now slot o m (channel_on now slot m.topic)) (holds_join slot o m) (holds_channel slot o m (channel_on now slot m.topic) (found slot m.topic)))
+        (by_test (is_join m) (join_parts c s now slot o m) (channel_parts c s now slot o m (channel_on now slot m.topic)) (holds_join slot o m)
+        (holds_channel slot o m (channel_on now slot m.topic) (found slot m.topic)))
 
     pub holds_frame : (slot : ℕ) (bytes : List ℕ) (o : Option Opening) → Holds (frame_parts c s now slot bytes o)
     holds_frame slot bytes None = holds_mute [] tt

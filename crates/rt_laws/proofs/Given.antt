@@ -31,7 +31,8 @@ numbered_take n (suc k) (p ∷ ps) h = (h.0, numbered_take (n + 1) k ps h.1)
 pub numbered_drop : (n k : ℕ) (ps : List Placed) → Numbered n ps → Numbered (n + k) (drop k ps)
 numbered_drop n zero ps h = let e : n ≡ n + 0 = omega arith in let P : ℕ → Type 0 = λ m. Numbered m ps in subst P e h
 numbered_drop n (suc k) [] h = tt
-numbered_drop n (suc k) (p ∷ ps) h = let e : (n + 1) + k ≡ n + suc k = omega arith in let P : ℕ → Type 0 = λ m. Numbered m (drop k ps) in subst P e (numbered_drop (n + 1) k ps h.1)
+numbered_drop n (suc k) (p ∷ ps) h = let e : (n + 1) + k ≡ n + suc k = omega arith in let P : ℕ → Type 0 = λ m. Numbered m (drop k ps) in
+    subst P e (numbered_drop (n + 1) k ps h.1)
 
 pub before_more : (n m : ℕ) (ks : List Cut) → n ≤ m → AllBefore n ks → AllBefore m ks
 before_more n m [] le h = tt
@@ -59,10 +60,22 @@ cutting n (k ∷ ks) o h =
     ]
 
 shows : (k : Cut) (p : Placed) (a b : Bool) → ltb p.place k.place ≡ a → eqb p.place k.place ≡ b
-    → shown_by (Some k) p ≡ elim a as (λ t. List Item) [ true ↦ p.item ∷ [] | false ↦ elim b as (λ t. List Item) [ true ↦ End OutboxFull ∷ [] | false ↦ [] ] ]
+    → shown_by (Some k) p ≡ elim a as (λ t. List Item) [
+      | true ↦ p.item ∷ []
+      | false ↦ elim b as
+          (λ t. List Item) [ true ↦ End OutboxFull ∷ [] | false ↦ [] ]
+    ]
 shows k p a b e f =
-    ap (λ (t : Bool). elim t as (λ u. List Item) [ true ↦ p.item ∷ [] | false ↦ elim (eqb p.place k.place) as (λ u. List Item) [ true ↦ End OutboxFull ∷ [] | false ↦ [] ] ]) e
-    ∙ ap (λ (t : Bool). elim a as (λ u. List Item) [ true ↦ p.item ∷ [] | false ↦ elim t as (λ u. List Item) [ true ↦ End OutboxFull ∷ [] | false ↦ [] ] ]) f
+    ap (λ (t : Bool). elim t as (λ u. List Item) [
+      | true ↦ p.item ∷ []
+      | false ↦ elim (eqb p.place k.place) as
+          (λ u. List Item) [ true ↦ End OutboxFull ∷ [] | false ↦ [] ]
+    ]) e
+    ∙ ap (λ (t : Bool). elim a as (λ u. List Item) [
+      | true ↦ p.item ∷ []
+      | false ↦ elim t as
+          (λ u. List Item) [ true ↦ End OutboxFull ∷ [] | false ↦ [] ]
+    ]) f
 
 shows_none : (k : Cut) (p : Placed) → k.place < p.place → shown_by (Some k) p ≡ []
 shows_none k p h =
@@ -105,7 +118,15 @@ pub record Front (n : ℕ) (ks : List Cut) (ps : List Placed) (p : Placed) : Typ
 
 front_here : (n : ℕ) (ks : List Cut) (x : Placed) (xs : List Placed) (p : Placed) → x.place ≡ n → cut_of ks x.opening ≡ None → x ≡ p
     → Front n ks (x ∷ xs) p
-front_here n ks x xs p h c e = record { count = 0; rest = xs; at = ap (λ (q : Placed). q.place) (sym e) ∙ h ∙ (let z : n ≡ n + 0 = omega arith in z); quiet = refl; here = ap (λ q. q ∷ xs) e; none = ap (λ (q : Placed). cut_of ks q.opening) (sym e) ∙ c }
+front_here n ks x xs p h c e = record {
+  count = 0;
+  rest = xs;
+  at = ap (λ (q : Placed). q.place) (sym e) ∙ h
+      ∙ (let z : n ≡ n + 0 = omega arith in z);
+  quiet = refl;
+  here = ap (λ q. q ∷ xs) e;
+  none = ap (λ (q : Placed). cut_of ks q.opening) (sym e) ∙ c;
+}
 
 front_later : (n : ℕ) (ks : List Cut) (x : Placed) (xs : List Placed) (p : Placed) → shown_at ks x ≡ [] → Front (n + 1) ks xs p
     → Front n ks (x ∷ xs) p
@@ -124,7 +145,8 @@ front_of n ks [] p more b h e = absurd (cc)
 front_of n ks (x ∷ xs) p more b h e =
     elim (cutting n ks x.opening b) [
       | uncut i c ↦ front_here n ks x xs p h.0 c (let same = rw i at e in cc)
-      | cut_at k i c lt ↦ front_later n ks x xs p (ap (λ o. shown_by o x) c ∙ shows_none k x (omega (arith, h.0))) (front_of (n + 1) ks xs p more (before_more n (n + 1) ks (omega arith) b) h.1 (rw i at e))
+      | cut_at k i c lt ↦ front_later n ks x xs p (ap (λ o. shown_by o x) c ∙ shows_none k x (omega (arith, h.0)))
+          (front_of (n + 1) ks xs p more (before_more n (n + 1) ks (omega arith) b) h.1 (rw i at e))
     ]
 
 push_other : (j : Cut) (ks : List Cut) (k : Cut) (p : Placed) → shown_at (ks ++ k ∷ []) p ≡ shown_at ks p
@@ -205,7 +227,9 @@ cut_short items given past cuts p k o e g f =
     record {
       is = sym (ap (flat_map (shown_at (cuts ++ k ∷ []))) (take_step p.place all p f.rest here)
           ∙ flat_map-append (shown_at (cuts ++ k ∷ [])) (take p.place all) (p ∷ [])
-          ∙ ap (λ xs. xs ++ (shown_at (cuts ++ k ∷ []) p ++ [])) (cuts_push 0 past cuts k (take p.place all) g.before (numbered_take 0 p.place all (numbered 0 0 items)) short ∙ before_front items given past cuts p g f)
+          ∙ ap (λ xs. xs ++ (shown_at (cuts ++ k ∷ []) p ++ []))
+          (cuts_push 0 past cuts k (take p.place all) g.before (numbered_take 0 p.place all (numbered 0 0 items)) short
+          ∙ before_front items given past cuts p g f)
           ∙ ap (λ xs. given ++ (xs ++ [])) (new_cut cuts k p f.none o e));
       within = omega arith;
       before = before_push (p.place + 1) cuts k (before_more past (p.place + 1) cuts (omega arith) g.before) (omega arith);
@@ -214,7 +238,8 @@ cut_short items given past cuts p k o e g f =
 -- more items come behind
 placed_more : (n o : ℕ) (xs ys : List Item) → (rest : List Placed) × (placed_from n o (xs ++ ys) ≡ placed_from n o xs ++ rest)
 placed_more n o [] ys = (placed_from n o ys, refl)
-placed_more n o (x ∷ xs) ys = let found = placed_more (n + 1) (opening_after x o) xs ys in (found.0, ap (λ ps. record { place = n; opening = o; item = x } ∷ ps) found.1)
+placed_more n o (x ∷ xs) ys = let found = placed_more (n + 1) (opening_after x o) xs ys in
+    (found.0, ap (λ ps. record { place = n; opening = o; item = x } ∷ ps) found.1)
 
 pub more_items : (items more given : List Item) (past : ℕ) (cuts : List Cut) → IsGiven items given past cuts → IsGiven (items ++ more) given past cuts
 more_items items more given past cuts g =

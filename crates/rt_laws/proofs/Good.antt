@@ -32,7 +32,8 @@ module _ (c : Catalog) (s : Settings) where
 
   -- what the slot was given, where its lane is so far
   abbrev Same : ℕ → World → ℕ → Lane → Type 0
-  Same slot w m y = IsGiven (items_for slot (answers_of_marks c s (take y.worked (lane_marks c s w.journal m)))) (w.slots slot).given (w.slots slot).past (w.slots slot).cuts
+  Same slot w m y = IsGiven (items_for slot (answers_of_marks c s (take y.worked (lane_marks c s w.journal m)))) (w.slots slot).given
+      (w.slots slot).past (w.slots slot).cuts
 
   abbrev Leads : Outcome × World → Type 0
   Leads r = IsGood r.1
@@ -71,16 +72,22 @@ module _ (c : Catalog) (s : Settings) where
         let same : take (w.lanes l).worked (lane_marks c s (i ∷ w.journal) l) ≡ take (w.lanes l).worked (lane_marks c s w.journal l) =
         ap (take (w.lanes l).worked) (lane_more c s w.journal i l)
         ∙ take-append-le (w.lanes l).worked (lane_marks c s w.journal l) (marks_of c s l w.journal i) within in
-        let P : List Mark → Type 0 = λ ms. IsGiven (items_for slot (answers_of_marks c s ms)) (w.slots slot).given (w.slots slot).past (w.slots slot).cuts in
+        let P : List Mark → Type 0 = λ ms. IsGiven (items_for slot (answers_of_marks c s ms)) (w.slots slot).given (w.slots slot).past
+        (w.slots slot).cuts in
         subst P (sym same) (g.slots slot);
   }
 
   input_good : (w rest : World) (i : Input) → IsGood w → IsGood rest → rest.journal ≡ w.journal
-      → Leads (elim (nat_le s.inputs (length w.journal)) [ true ↦ (spent, w) | false ↦ elim (nat_lt s.rows (rows_left c s w.journal i)) [ true ↦ (rows_full, w) | false ↦ (done, record rest { journal = i ∷ w.journal }) ] ])
+      → Leads (elim (nat_le s.inputs (length w.journal)) [
+        | true ↦ (spent, w)
+        | false ↦ elim
+            (nat_lt s.rows (rows_left c s w.journal i)) [ true ↦ (rows_full, w) | false ↦ (done, record rest { journal = i ∷ w.journal }) ]
+      ])
   input_good w rest i g r e =
       let P : List Input → Type 0 = λ j. IsGood (record rest { journal = i ∷ j }) in
       let next : IsGood (record rest { journal = i ∷ w.journal }) = subst P e (journal_good rest i r) in
-      by_case (nat_le s.inputs (length w.journal)) (spent, w) (elim (nat_lt s.rows (rows_left c s w.journal i)) [ true ↦ (rows_full, w) | false ↦ (done, record rest { journal = i ∷ w.journal }) ]) g
+      by_case (nat_le s.inputs (length w.journal)) (spent, w)
+      (elim (nat_lt s.rows (rows_left c s w.journal i)) [ true ↦ (rows_full, w) | false ↦ (done, record rest { journal = i ∷ w.journal }) ]) g
       (by_case (nat_lt s.rows (rows_left c s w.journal i)) (rows_full, w) (done, record rest { journal = i ∷ w.journal }) g next)
 
   first_good : (w : World) (inputs : List Input) (put : List Input → World → World) → IsGood w → ((is : List Input) → IsGood (put is w))
@@ -107,7 +114,8 @@ module _ (c : Catalog) (s : Settings) where
   not_equal : (n m : ℕ) → (n == m) ≡ false → n ≢ m
   not_equal n m e h = elim (eqb_tells n m) [ inl t ↦ let k = t.0 in absurd (cc) | inr t ↦ t.1 h ]
 
-  sent_good : (w : World) (l : ℕ) → IsGood w → ((w.lanes l).sent == length (lane_marks c s w.journal l)) ≡ false → IsGood (with_lane w l (record (w.lanes l) { sent = (w.lanes l).sent + 1 }))
+  sent_good : (w : World) (l : ℕ) → IsGood w → ((w.lanes l).sent == length (lane_marks c s w.journal l)) ≡ false
+      → IsGood (with_lane w l (record (w.lanes l) { sent = (w.lanes l).sent + 1 }))
   sent_good w l g e =
       let all = length (lane_marks c s w.journal l) in
       let ne = not_equal (w.lanes l).sent all e in
@@ -125,7 +133,8 @@ module _ (c : Catalog) (s : Settings) where
   send_good : (w : World) (l : ℕ) → IsGood w → Leads (send c s w l (w.lanes l))
   send_good w l g =
       let x = w.lanes l in
-      by_test (x.sent == length (lane_marks c s w.journal l)) (empty, w) (elim (x.sent - x.worked == s.lane) [ true ↦ (full, w) | false ↦ (done, with_lane w l (record x { sent = x.sent + 1 })) ])
+      by_test (x.sent == length (lane_marks c s w.journal l)) (empty, w)
+      (elim (x.sent - x.worked == s.lane) [ true ↦ (full, w) | false ↦ (done, with_lane w l (record x { sent = x.sent + 1 })) ])
       (λ h. g) (λ h. by_case (x.sent - x.worked == s.lane) (full, w) (done, with_lane w l (record x { sent = x.sent + 1 })) g (sent_good w l g h))
 
   more_worked : (w : World) (slot l : ℕ) → Same slot w l (w.lanes l) → Same slot w l (record (w.lanes l) { worked = (w.lanes l).worked + 1 })
@@ -136,9 +145,11 @@ module _ (c : Catalog) (s : Settings) where
       let is : items_for slot (answers_of_marks c s (take (n + 1) marks)) ≡ items_for slot (answers_of_marks c s (take n marks)) ++ found.0 =
       ap (λ ms. items_for slot (answers_of_marks c s ms)) (take_add n 1 marks) ∙ found.1 in
       let P : List Item → Type 0 = λ items. IsGiven items (w.slots slot).given (w.slots slot).past (w.slots slot).cuts in
-      subst P (sym is) (more_items (items_for slot (answers_of_marks c s (take n marks))) found.0 (w.slots slot).given (w.slots slot).past (w.slots slot).cuts h)
+      subst P (sym is) (more_items (items_for slot (answers_of_marks c s (take n marks))) found.0 (w.slots slot).given (w.slots slot).past
+      (w.slots slot).cuts h)
 
-  worked_good : (w : World) (l : ℕ) → IsGood w → ((w.lanes l).worked == (w.lanes l).sent) ≡ false → IsGood (with_lane w l (record (w.lanes l) { worked = (w.lanes l).worked + 1 }))
+  worked_good : (w : World) (l : ℕ) → IsGood w → ((w.lanes l).worked == (w.lanes l).sent) ≡ false
+      → IsGood (with_lane w l (record (w.lanes l) { worked = (w.lanes l).worked + 1 }))
   worked_good w l g e =
       let ne = not_equal (w.lanes l).worked (w.lanes l).sent e in
       let le = g.worked l in
@@ -147,12 +158,14 @@ module _ (c : Catalog) (s : Settings) where
         worked = with_all (λ m y. y.worked ≤ y.sent) w.lanes l x (omega arith) g.worked;
         sent = with_all (λ m y. y.sent ≤ length (lane_marks c s w.journal m)) w.lanes l x (g.sent l) g.sent;
         slots =
-            λ slot. with_all (λ m y. Same slot w m (w.lanes m) → Same slot w m y) w.lanes l x (more_worked w slot l) (λ m h. h) (lane_of c s slot) (g.slots slot);
+            λ slot. with_all (λ m y. Same slot w m (w.lanes m) → Same slot w m y) w.lanes l x (more_worked w slot l) (λ m h. h) (lane_of c s slot)
+            (g.slots slot);
       }
 
   work_good : (w : World) (l : ℕ) → IsGood w → Leads (work w l (w.lanes l))
   work_good w l g =
-      by_test ((w.lanes l).worked == (w.lanes l).sent) (empty, w) (done, with_lane w l (record (w.lanes l) { worked = (w.lanes l).worked + 1 })) (λ h. g) (λ h. worked_good w l g h)
+      by_test ((w.lanes l).worked == (w.lanes l).sent) (empty, w) (done, with_lane w l (record (w.lanes l) { worked = (w.lanes l).worked + 1 }))
+      (λ h. g) (λ h. worked_good w l g h)
 
   push_good : (w : World) (slot : ℕ) (ps : List Placed) → IsGood w
       → filter (is_uncut (w.slots slot).cuts) (drop (w.slots slot).past (placed (worked_items c s w slot))) ≡ ps
@@ -164,7 +177,8 @@ module _ (c : Catalog) (s : Settings) where
       let here = g.slots slot in
       let rest : Numbered x.past (drop x.past (placed items)) =
       let z : 0 + x.past ≡ x.past =
-      omega arith in let P : ℕ → Type 0 = λ n. Numbered n (drop x.past (placed items)) in subst P z (numbered_drop 0 x.past (placed items) (numbered 0 0 items)) in
+      omega arith in let P : ℕ → Type 0 = λ n. Numbered n (drop x.past (placed items)) in
+      subst P z (numbered_drop 0 x.past (placed items) (numbered 0 0 items)) in
       let f = front_of x.past x.cuts (drop x.past (placed items)) p ps here.before rest e in
       let k : Cut = record { opening = p.opening; place = p.place } in
       by_case (is_full_for c s x p.item) (full, with_slot w slot (with_cut x p)) (done, with_slot w slot (with_given x p))
@@ -193,7 +207,8 @@ module _ (c : Catalog) (s : Settings) where
   run_good (x ∷ xs) w g = run_good xs (step_of c s w x).1 (step_good w x g)
 
   none_given : (slot : ℕ) (items : List Item) → items ≡ [] → IsGiven items [] 0 []
-  none_given slot items e = let P : List Item → Type 0 = λ is. IsGiven is [] 0 [] in subst P (sym e) (record { is = refl; within = omega arith; before = tt })
+  none_given slot items e = let P : List Item → Type 0 = λ is. IsGiven is [] 0 [] in
+      subst P (sym e) (record { is = refl; within = omega arith; before = tt })
 
   pub start_good : IsGood start
   unfolding told
@@ -201,7 +216,8 @@ module _ (c : Catalog) (s : Settings) where
     worked = λ l. omega arith;
     sent = λ l. omega arith;
     slots =
-        λ slot. none_given slot (worked_items c s start slot) (ap (λ ms. items_for slot (answers_of_marks c s (take 0 ms))) (lane_none c s (lane_of c s slot)) ∙ ap (items_for slot) (no_marks c s));
+        λ slot. none_given slot (worked_items c s start slot)
+        (ap (λ ms. items_for slot (answers_of_marks c s (take 0 ms))) (lane_none c s (lane_of c s slot)) ∙ ap (items_for slot) (no_marks c s));
   }
 
   pub good_serves : (w : World) (slot : ℕ) → IsGood w → IsServed c s w slot
@@ -216,11 +232,13 @@ module _ (c : Catalog) (s : Settings) where
       sym (lane_due c s slot w.journal) ∙ ap (λ ms. items_for slot (answers_of_marks c s ms)) (sym (take-append-drop n marks)) ∙ found.1 in
       record {
         in_order = let P : List Item → Type 0 = λ items. IsPrefixOf x.given (shown items x.cuts) in
-            subst P (sym is) (given_prefix (worked_items c s w slot ++ found.0) x.given x.past x.cuts (more_items (worked_items c s w slot) found.0 x.given x.past x.cuts (g.slots slot)));
+            subst P (sym is) (given_prefix (worked_items c s w slot ++ found.0) x.given x.past x.cuts
+            (more_items (worked_items c s w slot) found.0 x.given x.past x.cuts (g.slots slot)));
         all_at_rest = λ (rest : IsAtRest c s w slot).
             let all : n ≡ length marks = rest.worked ∙ rest.sent in
             let same : worked_items c s w slot ≡ due c s w.journal slot =
-            ap (λ k. items_for slot (answers_of_marks c s (take k marks))) all ∙ ap (λ ms. items_for slot (answers_of_marks c s ms)) (take-length marks) ∙ lane_due c s slot w.journal in
+            ap (λ k. items_for slot (answers_of_marks c s (take k marks))) all
+            ∙ ap (λ ms. items_for slot (answers_of_marks c s ms)) (take-length marks) ∙ lane_due c s slot w.journal in
             given_all (worked_items c s w slot) x.given x.past x.cuts (g.slots slot) rest.nothing ∙ ap (λ items. shown items x.cuts) same;
       }
 

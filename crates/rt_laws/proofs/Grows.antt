@@ -33,7 +33,8 @@ pub record IsSound (before : Story) (l : Line) : Type 0 where
   pub stays : filter (λ (ch : Channel). not (has ch.number (departed (l ∷ before)))) (joins_of l.parts) ≡ joins_of l.parts
   pub claims : map (member_in (l ∷ before)) (joins_of l.parts) ≡ map new_member (joins_of l.parts)
   pub tagged : AllOf Tagged (all_tracks before)
-  pub old : AllOf (λ (t : Track). is_held (l ∷ before) t ≡ (is_held before t && not (has t.channel (departed_in l.parts)))) (standing_tracks (all_tracks before))
+  pub old : AllOf (λ (t : Track). is_held (l
+      ∷ before) t ≡ (is_held before t && not (has t.channel (departed_in l.parts)))) (standing_tracks (all_tracks before))
   pub new : filter (is_held (l ∷ before)) (standing_tracks (tracks_in l.parts)) ≡ standing_tracks (tracks_in l.parts)
 
 pub joined_grows : (l : Line) (before : Story) → ((length (joins_of l.parts) ≡ 0) ⊎ (length (joins_of l.parts) ≡ 1))
@@ -51,7 +52,8 @@ claims_grow : (l : Line) (before : Story) (ch : Channel)
     → claims_at (l ∷ before) ch ≡ first_or (claims_at before ch) (filter_map (renewed_by ch.number) l.parts)
 unfolding claims_at
 claims_grow l before ch =
-    first_or_append (standing_of ch) (filter_map (renewed_by ch.number) l.parts) (flat_map (λ (k : Line). filter_map (renewed_by ch.number) k.parts) before)
+    first_or_append (standing_of ch) (filter_map (renewed_by ch.number) l.parts)
+    (flat_map (λ (k : Line). filter_map (renewed_by ch.number) k.parts) before)
 
 abbrev stays_in : Story → Channel → Bool
 stays_in story ch = not (has ch.number (departed story))
@@ -73,7 +75,8 @@ members_grow l before one stays =
     ap (filter (stays_in (l ∷ before))) (joined_grows l before one)
     ∙ filter-append (stays_in (l ∷ before)) (joined before) (joins_of l.parts)
     ∙ ap (λ xs. filter (stays_in (l ∷ before)) (joined before) ++ xs) stays
-    ∙ ap (λ xs. xs ++ joins_of l.parts) (filter_same (stays_in (l ∷ before)) (λ ch. stays_in before ch && remains_by l.parts ch) (stays_grows l before) (joined before) ∙ filter_and (remains_by l.parts) (stays_in before) (joined before))
+    ∙ ap (λ xs. xs ++ joins_of l.parts) (filter_same (stays_in (l ∷ before)) (λ ch. stays_in before ch && remains_by l.parts ch)
+    (stays_grows l before) (joined before) ∙ filter_and (remains_by l.parts) (stays_in before) (joined before))
 
 member_grows : (l : Line) (before : Story) (ch : Channel) → member_in (l ∷ before) ch ≡ renewed l.parts (member_in before ch)
 member_grows l before ch = ap (λ (standing : Standing). with_standing ch standing) (claims_grow l before ch)
@@ -99,19 +102,22 @@ ids_grow l before s =
     ∙ length-append (flat_map (λ (ch : Channel). ch.bindings) (joined before)) (flat_map (λ (ch : Channel). ch.bindings) (joins_of l.parts))
 
 opens_from : (l : Line) (before : Story) (from n : ℕ)
-    → map (opening_at (l ∷ before)) (range_with_len from n) ≡ map (opens_after l.input (moment_at before) l.parts) (enumerate_from from (map (opening_at before) (range_with_len from n)))
+    → map (opening_at (l ∷ before)) (range_with_len from n) ≡ map (opens_after l.input (moment_at before) l.parts)
+    (enumerate_from from (map (opening_at before) (range_with_len from n)))
 opens_from l before from zero = refl
 opens_from l before from (suc n) = ap (λ os. opening_at (l ∷ before) from ∷ os) (opens_from l before (from + 1) n)
 
 opens_grow : (l : Line) (before : Story)
-    → map (opening_at (l ∷ before)) every_slot ≡ map (opens_after l.input (moment_at before) l.parts) (enumerate_from 0 (map (opening_at before) every_slot))
+    → map (opening_at (l ∷ before)) every_slot ≡ map (opens_after l.input (moment_at before) l.parts)
+    (enumerate_from 0 (map (opening_at before) every_slot))
 unfolding every_slot
 opens_grow l before = opens_from l before 0 256
 
 -- the tracks
 
 last_append : (n : ℕ) (xs ys : List (ℕ × Option Track)) → is_last n (xs ++ ys) ≡ (is_last n xs && is_last n ys)
-last_append n xs ys = ap not (any_append (λ (t : ℕ × Option Track). t.0 == n) xs ys) ∙ not_or (list_any (λ (t : ℕ × Option Track). t.0 == n) xs) (list_any (λ (t : ℕ × Option Track). t.0 == n) ys)
+last_append n xs ys = ap not (any_append (λ (t : ℕ × Option Track). t.0 == n) xs ys)
+    ∙ not_or (list_any (λ (t : ℕ × Option Track). t.0 == n) xs) (list_any (λ (t : ℕ × Option Track). t.0 == n) ys)
 
 standing_case : (a b : Bool) (t : Track) (p : Track → Bool) (xs ys : List Track) → p t ≡ b
     → elim (a && b) [ true ↦ t ∷ (filter p xs ++ ys) | false ↦ filter p xs ++ ys ] ≡ filter p (elim a [ true ↦ t ∷ xs | false ↦ xs ]) ++ ys
@@ -166,5 +172,6 @@ same_now n m t u a b os ps hs ks xs ys i j e f g h k o p = cc
 pub now_grows : (l : Line) (before : Story) → IsSound before l → now_of (l ∷ before) ≡ after (now_of before) l.input l.parts
 unfolding now_of after
 now_grows l before s =
-    same_now (length (l ∷ before)) (length before + 1) (moment_after l.input (moment_at before)) (moment_after l.input (moment_at before)) _ _ _ _ _ _ _ _ _ _
+    same_now (length (l ∷ before)) (length before + 1) (moment_after l.input (moment_at before))
+    (moment_after l.input (moment_at before)) _ _ _ _ _ _ _ _ _ _
     (omega arith) refl refl (opens_grow l before) (all_members_grow l before s) (tracks_grow l before s) (ids_grow l before s)

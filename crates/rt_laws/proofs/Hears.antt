@@ -101,19 +101,22 @@ pub none_leave : (now : Now) (gone : List ℕ) (o : Option Track) → departed_i
 none_leave now gone None = refl
 none_leave now gone (Some t) = no_departures [] (t ∷ []) (filter (watches gone t.topic) now.members)
 
-module _ (now : Now) (h : Member) (in_members : Among now.members h) (rises : RisingMembers now.members) (apart : AreApart now.members) (enabled : h.channel.presence ≡ true) where
+module _ (now : Now) (h : Member) (in_members : Among now.members h) (rises : RisingMembers now.members) (apart : AreApart now.members)
+    (enabled : h.channel.presence ≡ true) where
   -- it is the only one of its slot and topic
   alone : filter (at h.channel) now.members ≡ h ∷ []
   alone =
       let found = filter (at h.channel) now.members in
       let here : at h.channel h ≡ true =
-      both_true (h.channel.slot == h.channel.slot) (bytes_eq h.channel.topic h.channel.topic) (eqb_same h.channel.slot) ((bytes_eq-Decides h.channel.topic h.channel.topic).1 refl) in
+      both_true (h.channel.slot == h.channel.slot) (bytes_eq h.channel.topic h.channel.topic) (eqb_same h.channel.slot)
+      ((bytes_eq-Decides h.channel.topic h.channel.topic).1 refl) in
       sole found h (rising_filter (at h.channel) now.members rises)
       (all_weaker (Among found) (λ (g : Member). g ≡ h) found
       (λ g i.
       let f = among_filter (at h.channel) now.members g i in
       let t = and_parts (g.channel.slot == h.channel.slot) (bytes_eq g.channel.topic h.channel.topic) f.1 in
-      apart g h f.0 in_members (same_number g.channel.slot h.channel.slot t.0) ((bytes_eq-Decides g.channel.topic h.channel.topic).0 t.1)) (all_themselves found))
+      apart g h f.0 in_members (same_number g.channel.slot h.channel.slot t.0) ((bytes_eq-Decides g.channel.topic h.channel.topic).0 t.1))
+      (all_themselves found))
       (filter_among (at h.channel) now.members h in_members here)
 
   watching : (gone topic : List ℕ) (b : Bool) → is_on topic h.channel ≡ b → has h.channel.number gone ≡ false → watches gone topic h ≡ b
@@ -125,12 +128,14 @@ module _ (now : Now) (h : Member) (in_members : Among now.members h) (rises : Ri
         and_trues false = refl
 
   one_or_none : (joins leaves : List Track) (b : Bool)
-      → map (λ (m : Member). presence_diff m.channel joins leaves) (cond b (h ∷ []) []) ≡ elim b [ true ↦ presence_diff h.channel joins leaves ∷ [] | false ↦ [] ]
+      → map (λ (m : Member). presence_diff m.channel joins leaves)
+      (cond b (h ∷ []) []) ≡ elim b [ true ↦ presence_diff h.channel joins leaves ∷ [] | false ↦ [] ]
   one_or_none joins leaves true = refl
   one_or_none joins leaves false = refl
 
   pub hears_own : (gone topic : List ℕ) (joins leaves : List Track) → has h.channel.number gone ≡ false
-      → hears h.channel (diffs now gone topic joins leaves) ≡ elim (bytes_eq h.channel.topic topic) [ true ↦ presence_diff h.channel joins leaves ∷ [] | false ↦ [] ]
+      → hears h.channel (diffs now gone topic joins leaves) ≡ elim
+      (bytes_eq h.channel.topic topic) [ true ↦ presence_diff h.channel joins leaves ∷ [] | false ↦ [] ]
   hears_own gone topic joins leaves stays =
       let say : Member → Message = λ m. presence_diff m.channel joins leaves in
       hears_diffs h.channel joins leaves (filter (watches gone topic) now.members)
@@ -160,7 +165,8 @@ module _ (now : Now) (h : Member) (in_members : Among now.members h) (rises : Ri
       ∙ ap (λ xs. leave_for h.channel (track_of now n) ++ xs) (hears_turn next gs a.1 later)
 
   hears_end : (slot : ℕ) (name : EndName) → AllOf Other (channels_of now slot)
-      → hears h.channel (end_of now [] slot name) ≡ flat_map (λ (g : Member). leave_for h.channel (track_of now g.channel.number)) (channels_of now slot)
+      → hears h.channel (end_of now [] slot name) ≡ flat_map (λ (g : Member). leave_for h.channel (track_of now g.channel.number))
+      (channels_of now slot)
   hears_end slot name a =
       let ds = in_turn (depart now) [] (channels_of now slot) in
       hears_append h.channel ds (Ends slot name ∷ []) ∙ append-nil (hears h.channel ds) ∙ hears_turn [] (channels_of now slot) a refl
@@ -180,7 +186,8 @@ module _ (c : Catalog) (s : Settings) where
 
   pub departures_told : (journal : List Input) (slot : ℕ) (o : Opening) (h : Member) → opening_in (found_by c s journal) slot ≡ Some o
       → Contains (found_by c s journal).members h → h.channel.presence ≡ true → h.channel.slot ≢ slot
-      → heard c s journal (Gone slot) h.channel ≡ flat_map (λ (g : Member). leave_for h.channel (track_of (found_by c s journal) g.channel.number)) (channels_of (found_by c s journal) slot)
+      → heard c s journal (Gone slot) h.channel ≡ flat_map (λ (g : Member). leave_for h.channel (track_of (found_by c s journal) g.channel.number))
+      (channels_of (found_by c s journal) slot)
   unfolding answers_by doings now_of
   departures_told journal slot o h e i p ne =
       let st = story c s journal in

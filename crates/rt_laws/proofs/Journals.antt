@@ -29,7 +29,8 @@ module _ (c : Catalog) (s : Settings) where
   story_more journal i = refl
 
   pub story_grows : (journal : List Input) (i : Input)
-      → now_of (story c s (i ∷ journal)) ≡ after (now_of (story c s journal)) i (doings c s (now_of (story c s journal)) (tables_left c (story c s journal) i) i)
+      → now_of (story c s (i ∷ journal)) ≡ after (now_of (story c s journal)) i
+      (doings c s (now_of (story c s journal)) (tables_left c (story c s journal) i) i)
   story_grows journal i =
       let st = story c s journal in
       let l = line_of journal i in

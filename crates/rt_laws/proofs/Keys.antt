@@ -36,7 +36,8 @@ Rises [] = ⊤
 Rises (k ∷ ks) = Above k ks × Rises ks
 
 above_less : (k l : List ℕ) (ls : List (List ℕ)) → by_bytes k l ≡ Less → Above l ls → Above k ls
-above_less k l ls e a = all_weaker (λ (m : List ℕ). by_bytes l m ≡ Less) (λ (m : List ℕ). by_bytes k m ≡ Less) ls (λ m f. nat_list_cmp_total.trans k l m e f) a
+above_less k l ls e a = all_weaker (λ (m : List ℕ). by_bytes l m ≡ Less) (λ (m : List ℕ). by_bytes k m ≡ Less) ls
+    (λ m f. nat_list_cmp_total.trans k l m e f) a
 
 above_put : (j k l : List ℕ) (ls more : List (List ℕ)) (o : Ordering) → by_bytes j k ≡ Less → Above j (l ∷ ls) → Above j more
     → Above j (inserted_by by_bytes o k l ls more)
@@ -146,7 +147,8 @@ module _ {A : Type 0} (key : A → List ℕ) where
 
   same_group : (k j : List ℕ) (xs : List A) → by_bytes k j ≡ Less → group xs j ≡ group (filter (others k) xs) j
   same_group k j xs e =
-      filter_alike (of_key j) (λ x. others k x && of_key j x) xs (all_every (λ x. of_key j x ≡ (others k x && of_key j x)) xs (λ x. not_other k j x e)) ∙ filter_and (of_key j) (others k) xs
+      filter_alike (of_key j) (λ x. others k x && of_key j x) xs
+      (all_every (λ x. of_key j x ≡ (others k x && of_key j x)) xs (λ x. not_other k j x e)) ∙ filter_and (of_key j) (others k) xs
 
   same_groups : (k : List ℕ) (ks : List (List ℕ)) (xs : List A) → Above k ks → flat_map (group xs) ks ≡ flat_map (group (filter (others k) xs)) ks
   same_groups k [] xs a = refl

@@ -1,32 +1,43 @@
+mod Accepting
 mod Agree
 mod Allowed
 pub mod Among
 mod Clients
 mod Columns
+mod Doing
 mod Due
 pub mod Fans
+pub mod Fitting
 mod Follows
 mod Frames
 pub mod Given
 pub mod Good
 pub mod Grows
 mod Hears
+mod Incoming
 pub mod Journals
 mod Keys
 pub mod Lists
 pub mod Marks
 mod Metas
+mod Moments
 mod Moves
 mod Once
 mod Opens
+mod Outgoing
 pub mod Plain
 mod Present
 mod Read
+mod Recorded
 mod Sent
 pub mod Shapes
-pub mod Sound
+mod Shaping
 mod Since
+pub mod Sound
 mod Starts
+mod Stocked
+mod Telling
+pub mod Texts
 mod Tracked
 mod Turns
 mod Unique

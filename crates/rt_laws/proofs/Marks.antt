@@ -59,7 +59,8 @@ keep_or w l slot g gs false e f h =
 pub told_in_lane : (w l slot : ℕ) → slot % w ≡ l → (gs : Answers) → told slot (filter (is_in_lane w l) gs) ≡ told slot gs
 told_in_lane w l slot e [] = refl
 told_in_lane w l slot e (g ∷ gs) =
-    let same : g.0 ≡ slot → is_in_lane w l g ≡ true = λ h. elim (eqb_tells (g.0 % w) l) [ inl t ↦ t.0 | inr t ↦ absurd (t.1 (ap (λ n. n % w) h ∙ e)) ] in
+    let same : g.0 ≡ slot → is_in_lane w l g ≡ true = λ h. elim
+    (eqb_tells (g.0 % w) l) [ inl t ↦ t.0 | inr t ↦ absurd (t.1 (ap (λ n. n % w) h ∙ e)) ] in
     keep_or w l slot g gs (is_in_lane w l g) refl same (told_in_lane w l slot e gs)
 
 module _ (c : Catalog) (s : Settings) where
@@ -98,7 +99,8 @@ module _ (c : Catalog) (s : Settings) where
   marks_told l slot e now tables (Poll changes) = ap (told slot) (one_batch now tables changes)
   marks_told l slot e now tables Stop =
       let gs = answers_by c s now tables Stop in
-      ap (told slot) (marks_append (of_lane c s l gs) (stop ∷ []) ∙ ap (λ xs. answers_of_marks c s (of_lane c s l gs) ++ xs) one_stop ∙ append-nil (answers_of_marks c s (of_lane c s l gs)))
+      ap (told slot) (marks_append (of_lane c s l gs) (stop ∷ []) ∙ ap (λ xs. answers_of_marks c s (of_lane c s l gs) ++ xs) one_stop
+      ∙ append-nil (answers_of_marks c s (of_lane c s l gs)))
       ∙ of_lane_told l slot e gs
   marks_told l slot e now tables (Opened n v claims) = of_lane_told l slot e (answers_by c s now tables (Opened n v claims))
   marks_told l slot e now tables (Frame n bytes) = of_lane_told l slot e (answers_by c s now tables (Frame n bytes))

@@ -85,7 +85,8 @@ list_items xs = ap (λ (ys : List Json). Some ys) (rows_are (hidden-the_row-Json
 abbrev under : List ℕ → Track → Held
 under k t = (k, meta_tree t)
 
-key_metas : (k : List ℕ) (ms : List Json) → metas_under (field k (j.Object (field (codes "metas") (j.List ms) ∷ []))) ≡ map (λ (meta : Json). let h : Held = (k, meta) in h) ms
+key_metas : (k : List ℕ) (ms : List Json) → metas_under (field k (j.Object (field (codes "metas") (j.List ms)
+    ∷ []))) ≡ map (λ (meta : Json). let h : Held = (k, meta) in h) ms
 key_metas k ms =
     let put : List Json → List Held = λ xs. map (λ (meta : Json). let h : Held = (k, meta) in h) xs in
     ap (λ (o : Option Json). put (unwrap_or (o >>= list_of) [])) (object_at (field (codes "metas") (j.List ms) ∷ []) (codes "metas"))
@@ -99,7 +100,8 @@ under_key tracks k =
     let ts = group (λ (t : Track). t.key) tracks k in
     key_metas k (map meta_tree ts)
     ∙ map_map (λ (meta : Json). let h : Held = (k, meta) in h) meta_tree ts
-    ∙ map_alike (under k) shown_meta ts (turned (λ (t : Track). of_key (λ (u : Track). u.key) k t ≡ true) (λ (t : Track). under k t ≡ shown_meta t) ts (same_key k) (all_pass (of_key (λ (u : Track). u.key) k) tracks))
+    ∙ map_alike (under k) shown_meta ts (turned (λ (t : Track). of_key (λ (u : Track). u.key) k t ≡ true)
+    (λ (t : Track). under k t ≡ shown_meta t) ts (same_key k) (all_pass (of_key (λ (u : Track). u.key) k) tracks))
 
 -- what a client reads of a tree of metas is what was written, up to order
 pub read_again : (tracks : List Track) → Moves (metas_in (metas_tree tracks)) (map shown_meta tracks)
@@ -112,15 +114,18 @@ read_again tracks =
     ∙ flat_of_map metas_under (metas_of tracks) keys
     ∙ flat_same (λ k. metas_under (metas_of tracks k)) (λ k. map shown_meta (group key tracks k)) keys (under_key tracks)
     ∙ sym (map_flat shown_meta (group key tracks) keys) in
-    then_to (metas_in (metas_tree tracks)) (map shown_meta all) (map shown_meta tracks) (moves_same (metas_in (metas_tree tracks)) (map shown_meta all) is)
-    (moves_map shown_meta all tracks (grouped key keys tracks (ordered_rises (map key tracks)) (all_unmap (IsIn keys) key tracks (ordered_has (map key tracks)))))
+    then_to (metas_in (metas_tree tracks)) (map shown_meta all) (map shown_meta tracks)
+    (moves_same (metas_in (metas_tree tracks)) (map shown_meta all) is)
+    (moves_map shown_meta all tracks (grouped key keys tracks (ordered_rises (map key tracks))
+    (all_unmap (IsIn keys) key tracks (ordered_has (map key tracks)))))
 
 -- references
 
 left_out : (name : List ℕ) (m : Member) (ms : List Member) (b : Bool) → bytes_eq m.name name ≡ b → last_named name ms ≡ None
     → last_named name (cond (not b) (m ∷ ms) ms) ≡ None
 left_out name m ms true e h = h
-left_out name m ms false e h = ap (λ (o : Option Json). or_else o (cond (bytes_eq m.name name) (Some m.value) None)) h ∙ ap (λ (b : Bool). cond b (Some m.value) None) e
+left_out name m ms false e h = ap (λ (o : Option Json). or_else o (cond (bytes_eq m.name name) (Some m.value) None)) h
+    ∙ ap (λ (b : Bool). cond b (Some m.value) None) e
 
 none_left : (name : List ℕ) (ms : List Member) → last_named name (filter (λ (m : Member). not (bytes_eq m.name name)) ms) ≡ None
 none_left name [] = refl
@@ -155,7 +160,8 @@ reads_leave leaves t f lt =
     ∙ any_of_map p shown_meta leaves
     ∙ any_alike (λ (u : Track). p (shown_meta u)) (λ (u : Track). u.reference == t.reference) leaves
     (turned (λ (u : Track). u.reference < 2 ^ 64) (λ (u : Track). p (shown_meta u) ≡ (u.reference == t.reference)) leaves
-    (λ u a. ap (λ (x : List ℕ). bytes_eq x (reference_of (shown_meta t))) (reference_is u) ∙ ap (bytes_eq (decimal u.reference)) (reference_is t) ∙ same_text u.reference t.reference a lt) (fit_all leaves f))
+    (λ u a. ap (λ (x : List ℕ). bytes_eq x (reference_of (shown_meta t))) (reference_is u) ∙ ap (bytes_eq (decimal u.reference)) (reference_is t)
+    ∙ same_text u.reference t.reference a lt) (fit_all leaves f))
 
 -- one difference
 pub reads_difference : (ch : Channel) (held : List Held) (tracks joins leaves : List Track) → Fit leaves
@@ -170,20 +176,27 @@ reads_difference ch held tracks joins leaves f all m =
     let joined : part_of (codes "joins") payload ≡ js = ap (λ (o : Option Json). metas_in (unwrap_or o no_members)) (object_at ms (codes "joins")) in
     let left : part_of (codes "leaves") payload ≡ ls = ap (λ (o : Option Json). metas_in (unwrap_or o no_members)) (object_at ms (codes "leaves")) in
     let is : after_message held (presence_diff ch joins leaves) ≡ filter (stays ls) (held ++ js) =
-    ap (λ (x : List Held). filter (stays x) (held ++ part_of (codes "joins") payload)) left ∙ ap (λ (x : List Held). filter (stays ls) (held ++ x)) joined in
+    ap (λ (x : List Held). filter (stays x) (held ++ part_of (codes "joins") payload)) left
+    ∙ ap (λ (x : List Held). filter (stays ls) (held ++ x)) joined in
     let both : Moves (held ++ js) (map shown_meta (tracks ++ joins)) =
     then_to (held ++ js) (map shown_meta tracks ++ js) (map shown_meta (tracks ++ joins)) (moves_left js held (map shown_meta tracks) m)
-    (then_to (map shown_meta tracks ++ js) (map shown_meta tracks ++ map shown_meta joins) (map shown_meta (tracks ++ joins)) (moves_right (map shown_meta tracks) js (map shown_meta joins) (read_again joins))
+    (then_to (map shown_meta tracks ++ js) (map shown_meta tracks ++ map shown_meta joins) (map shown_meta (tracks ++ joins))
+    (moves_right (map shown_meta tracks) js (map shown_meta joins) (read_again joins))
     (moves_same (map shown_meta tracks ++ map shown_meta joins) (map shown_meta (tracks ++ joins)) (sym (map-append shown_meta tracks joins)))) in
-    let last : filter (stays ls) (map shown_meta (tracks ++ joins)) ≡ map shown_meta (filter (λ (t : Track). not (leaves_in leaves t)) (tracks ++ joins)) =
+    let last : filter (stays ls) (map shown_meta (tracks ++ joins)) ≡ map shown_meta
+    (filter (λ (t : Track). not (leaves_in leaves t)) (tracks ++ joins)) =
     filter_map_swap (stays ls) shown_meta (tracks ++ joins)
     ∙ ap (map shown_meta) (filter_alike (λ (t : Track). stays ls (shown_meta t)) (λ (t : Track). not (leaves_in leaves t)) (tracks ++ joins)
-    (turned (λ (t : Track). t.reference < 2 ^ 64) (λ (t : Track). stays ls (shown_meta t) ≡ not (leaves_in leaves t)) (tracks ++ joins) (λ t a. ap not (reads_leave leaves t f a)) all)) in
-    then_to (after_message held (presence_diff ch joins leaves)) (filter (stays ls) (held ++ js)) (map shown_meta (filter (λ (t : Track). not (leaves_in leaves t)) (tracks ++ joins)))
+    (turned (λ (t : Track). t.reference < 2 ^ 64) (λ (t : Track). stays ls (shown_meta t) ≡ not (leaves_in leaves t)) (tracks ++ joins)
+    (λ t a. ap not (reads_leave leaves t f a)) all)) in
+    then_to (after_message held (presence_diff ch joins leaves)) (filter (stays ls) (held ++ js))
+    (map shown_meta (filter (λ (t : Track). not (leaves_in leaves t)) (tracks ++ joins)))
     (moves_same (after_message held (presence_diff ch joins leaves)) (filter (stays ls) (held ++ js)) is)
-    (then_to (filter (stays ls) (held ++ js)) (filter (stays ls) (map shown_meta (tracks ++ joins))) (map shown_meta (filter (λ (t : Track). not (leaves_in leaves t)) (tracks ++ joins)))
+    (then_to (filter (stays ls) (held ++ js)) (filter (stays ls) (map shown_meta (tracks ++ joins)))
+    (map shown_meta (filter (λ (t : Track). not (leaves_in leaves t)) (tracks ++ joins)))
     (moves_filter (stays ls) (held ++ js) (map shown_meta (tracks ++ joins)) both)
-    (moves_same (filter (stays ls) (map shown_meta (tracks ++ joins))) (map shown_meta (filter (λ (t : Track). not (leaves_in leaves t)) (tracks ++ joins))) last))
+    (moves_same (filter (stays ls) (map shown_meta (tracks ++ joins)))
+    (map shown_meta (filter (λ (t : Track). not (leaves_in leaves t)) (tracks ++ joins))) last))
 
 reads_all : (ch : Channel) (held : List Held) (tracks : List Track) (ds : List Difference) → AllOf (λ (t : Track). t.reference < 2 ^ 64) tracks
     → AllFit ds → Moves held (map shown_meta tracks)
@@ -192,11 +205,14 @@ reads_all ch held tracks [] a f m = m
 reads_all ch held tracks (d ∷ ds) a f m =
     let all = all_append (λ (t : Track). t.reference < 2 ^ 64) tracks d.joins a (fit_all d.joins f.0) in
     let next = filter (λ (t : Track). not (leaves_in d.leaves t)) (tracks ++ d.joins) in
-    reads_all ch (after_message held (presence_diff ch d.joins d.leaves)) next ds (all_filter (λ (t : Track). t.reference < 2 ^ 64) (λ (t : Track). not (leaves_in d.leaves t)) (tracks ++ d.joins) all) f.2
+    reads_all ch (after_message held (presence_diff ch d.joins d.leaves)) next ds
+    (all_filter (λ (t : Track). t.reference < 2 ^ 64) (λ (t : Track). not (leaves_in d.leaves t)) (tracks ++ d.joins) all) f.2
     (reads_difference ch held tracks d.joins d.leaves f.1 all m)
 
 pub states_read : (ch : Channel) (tracks : List Track) (ds : List Difference) (held : List Held) → Fit tracks → AllFit ds
-    → IsPermutation (client_view held (presence_state ch tracks ∷ map (λ (d : Difference). presence_diff ch d.joins d.leaves) ds)) (map shown_meta (after_differences tracks ds))
+    → IsPermutation (client_view held (presence_state ch tracks ∷ map (λ (d : Difference). presence_diff ch d.joins d.leaves) ds))
+    (map shown_meta (after_differences tracks ds))
 states_read ch tracks ds held f all =
-    permuted (client_view held (presence_state ch tracks ∷ map (λ (d : Difference). presence_diff ch d.joins d.leaves) ds)) (map shown_meta (after_differences tracks ds))
+    permuted (client_view held (presence_state ch tracks ∷ map (λ (d : Difference). presence_diff ch d.joins d.leaves) ds))
+    (map shown_meta (after_differences tracks ds))
     (reads_all ch (metas_in (metas_tree tracks)) tracks ds (fit_all tracks f) all (read_again tracks))

@@ -62,7 +62,8 @@ moves_left zs xs ys (then_to us vs ws m n) = then_to (us ++ zs) (vs ++ zs) (ws +
 pub moves_middle : {A : Type 0} (x : A) (xs ys : List A) → Moves (x ∷ (xs ++ ys)) (xs ++ x ∷ ys)
 moves_middle x [] ys = none (x ∷ ys)
 moves_middle x (z ∷ xs) ys =
-    then_to (x ∷ z ∷ (xs ++ ys)) (z ∷ x ∷ (xs ++ ys)) (z ∷ (xs ++ x ∷ ys)) (swap x z (xs ++ ys)) (skip z (x ∷ (xs ++ ys)) (xs ++ x ∷ ys) (moves_middle x xs ys))
+    then_to (x ∷ z ∷ (xs ++ ys)) (z ∷ x ∷ (xs ++ ys)) (z ∷ (xs ++ x ∷ ys)) (swap x z (xs ++ ys))
+    (skip z (x ∷ (xs ++ ys)) (xs ++ x ∷ ys) (moves_middle x xs ys))
 
 parted : {A : Type 0} (p : A → Bool) (x : A) (xs fs gs : List A) (b : Bool) → Moves xs (fs ++ gs)
     → Moves (x ∷ xs) (cond b (x ∷ fs) fs ++ cond (not b) (x ∷ gs) gs)

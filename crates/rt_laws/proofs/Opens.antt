@@ -109,16 +109,21 @@ held_there (Some o) x e = ap (λ (y : Option Opening). Some y) e
 pub open_after : (now : Now) (i : Input) (ps : List Part) (slot : ℕ) → IsOpen now slot → AllOf (Spares slot) ps → IsOpen (after now i ps) slot
 unfolding after
 open_after now i ps slot held_open a =
-    let at = at_place (opens_after i now.moment ps) 0 now.opens slot (Some held_open.0) (held_there (slice_get now.opens slot) held_open.0 held_open.1) in
+    let at = at_place (opens_after i now.moment ps) 0 now.opens slot (Some held_open.0)
+    (held_there (slice_get now.opens slot) held_open.0 held_open.1) in
     let zero_more : 0 + slot ≡ slot = omega arith in
-    let heard = heard_in i now.moment slot held_open.0 in
-    (heard, ap (λ (x : Option (Option Opening)). or_none x) (at ∙ ap (λ (n : ℕ). Some (opens_after i now.moment ps (n, Some held_open.0))) zero_more) ∙ stays_open slot ps heard a)
+    let heard = heard_in i now.moment slot held_open.0 in (
+      heard,
+      ap (λ (x : Option (Option Opening)). or_none x) (at
+          ∙ ap (λ (n : ℕ). Some (opens_after i now.moment ps (n, Some held_open.0))) zero_more) ∙ stays_open slot ps heard a,
+    )
 
 still_turn : {A : Type 0} (act : List ℕ → A → List Part) → ((gone : List ℕ) (x : A) → AllOf Still (act gone x)) → (gone : List ℕ) (xs : List A)
     → AllOf Still (in_turn act gone xs)
 still_turn act f gone [] = tt
 still_turn act f gone (x ∷ xs) =
-    all_append Still (act gone x) (in_turn act (departed_in (act gone x) ++ gone) xs) (f gone x) (still_turn act f (departed_in (act gone x) ++ gone) xs)
+    all_append Still (act gone x) (in_turn act (departed_in (act gone x) ++ gone) xs) (f gone x)
+    (still_turn act f (departed_in (act gone x) ++ gone) xs)
 
 or_right : (x y : Bool) → y ≡ true → (x || y) ≡ true
 or_right true y e = refl
@@ -164,7 +169,8 @@ module _ (now : Now) where
   end_has gone slot name h here e =
       let ds = in_turn (depart now) gone (channels_of now slot) in
       let own = filter_among (is_of_slot slot) now.members h here (ap (λ (n : ℕ). n == slot) e ∙ eqb_same slot) in
-      has_append h.channel.number ds (Ends slot name ∷ []) ∙ or_left (has h.channel.number (departed_in ds)) _ (turn_has gone (channels_of now slot) h own)
+      has_append h.channel.number ds (Ends slot name ∷ []) ∙ or_left (has h.channel.number (departed_in ds)) _
+      (turn_has gone (channels_of now slot) h own)
 
   -- where a member doesn't depart its slot is left alone
   abbrev pub Keeps : List Part → List ℕ → Type 0
@@ -181,7 +187,8 @@ module _ (now : Now) where
       let dq = departed_in qs in
       let ds : departed_in (ps ++ qs) ≡ dp ++ dq = filter_map-append departed_by ps qs in
       let stays_on : has n (dq ++ (dp ++ gone)) ≡ false = sym (ap (λ (xs : List ℕ). has n (xs ++ gone)) ds ∙ has_turn n dp dq gone) ∙ stays in
-      let before : has n (dp ++ gone) ≡ false = or_second (has n dq) (has n (dp ++ gone)) (sym (any_append (λ j. j == n) dq (dp ++ gone)) ∙ stays_on) in
+      let before : has n (dp ++ gone) ≡ false = or_second (has n dq) (has n (dp ++ gone))
+      (sym (any_append (λ j. j == n) dq (dp ++ gone)) ∙ stays_on) in
       all_append (Spares h.channel.slot) ps qs (a h here before) (b h here stays_on)
 
   keeps_each : {A : Type 0} (act : List ℕ → A → List Part) → ((gone : List ℕ) (x : A) → Keeps (act gone x) gone) → (gone : List ℕ) (xs : List A)
@@ -217,7 +224,8 @@ module _ (now : Now) where
   keeps_tick moment gone (slot, Some o) h here stays =
       let ended = filter (has_run_out moment) (channels_of now slot) in
       let reason = codes "token expired" in
-      let all : Keeps (tick_parts now moment gone (slot, Some o)) gone = elim (is_idle moment o) as (λ t. Keeps (elim t [ true ↦ end_of now gone slot end_name.Idle | false ↦ in_turn (fail now reason) gone ended ]) gone) [
+      let all : Keeps (tick_parts now moment gone (slot, Some o)) gone = elim (is_idle moment o) as
+      (λ t. Keeps (elim t [ true ↦ end_of now gone slot end_name.Idle | false ↦ in_turn (fail now reason) gone ended ]) gone) [
         | true ↦ keeps_end gone slot end_name.Idle
         | false ↦ keeps_still (in_turn (fail now reason) gone ended) gone (still_turn (fail now reason) (still_fail reason) gone ended)
       ] in
@@ -254,7 +262,8 @@ module _ (now : Now) where
 
     departs_has : (gs : List Member) (h : Member) → Among gs h → has h.channel.number (departed_in (map departs_of gs)) ≡ true
     departs_has [] h i = absurd i
-    departs_has (g ∷ gs) h (inl e) = or_left (g.channel.number == h.channel.number) _ (ap (λ (m : Member). m.channel.number == h.channel.number) e ∙ eqb_same h.channel.number)
+    departs_has (g ∷ gs) h (inl e) = or_left (g.channel.number == h.channel.number) _
+        (ap (λ (m : Member). m.channel.number == h.channel.number) e ∙ eqb_same h.channel.number)
     departs_has (g ∷ gs) h (inr i) = or_right (g.channel.number == h.channel.number) _ (departs_has gs h i)
 
     flat_has : {A : Type 0} (n : ℕ) (f : A → List Part) (xs : List A) (x : A) → Among xs x → has n (departed_in (f x)) ≡ true
@@ -265,14 +274,16 @@ module _ (now : Now) where
     flat_has n f (y ∷ ys) x (inr i) e = has_append n (f y) (flat_map f ys) ∙ or_right (has n (departed_in (f y))) _ (flat_has n f ys x i e)
 
     -- at a stop every member departs
-    pub stop_has : (h : Member) → Among now.members h → has h.channel.number (departed_in (flat_map (stop_parts now) (enumerate_from 0 now.opens))) ≡ true
+    pub stop_has : (h : Member) → Among now.members h
+        → has h.channel.number (departed_in (flat_map (stop_parts now) (enumerate_from 0 now.opens))) ≡ true
     stop_has h here =
         let n = h.channel.number in
         let slot = h.channel.slot in
         let held_open = open_slots h here in
         let zero_more : 0 + slot ≡ slot = omega arith in
         let P : ℕ → Type 0 = λ k. Among (enumerate_from 0 now.opens) (k, Some held_open.0) in
-        let there = subst P zero_more (place_of 0 now.opens slot (Some held_open.0) (held_there (slice_get now.opens slot) held_open.0 held_open.1)) in
+        let there = subst P zero_more (place_of 0 now.opens slot (Some held_open.0)
+        (held_there (slice_get now.opens slot) held_open.0 held_open.1)) in
         let own = filter_among (is_of_slot slot) now.members h here (eqb_same slot) in
         let ds = map departs_of (channels_of now slot) in
         flat_has n (stop_parts now) (enumerate_from 0 now.opens) (slot, Some held_open.0) there

@@ -80,7 +80,8 @@ pub filter_and : {A : Type 0} (p q : A → Bool) (xs : List A) → filter (λ x.
 filter_and p q [] = refl
 filter_and p q (x ∷ xs) =
     ap (λ ys. cond (q x && p x) (x ∷ ys) ys) (filter_and p q xs)
-    ∙ elim (q x) as (λ b. cond (b && p x) (x ∷ filter p (filter q xs)) (filter p (filter q xs)) ≡ filter p (cond b (x ∷ filter q xs) (filter q xs))) [ true ↦ refl | false ↦ refl ]
+    ∙ elim (q x) as (λ b. cond (b && p x) (x ∷ filter p (filter q xs)) (filter p (filter q xs)) ≡ filter p (cond b (x ∷ filter q xs) (filter q xs)))
+    [ true ↦ refl | false ↦ refl ]
 
 pub filter_same : {A : Type 0} (p q : A → Bool) → ((x : A) → p x ≡ q x) → (xs : List A) → filter p xs ≡ filter q xs
 filter_same p q e [] = refl
@@ -108,7 +109,8 @@ pub filter_map_swap : {A B : Type 0} (p : B → Bool) (f : A → B) (xs : List A
 filter_map_swap p f [] = refl
 filter_map_swap p f (x ∷ xs) =
     ap (λ ys. cond (p (f x)) (f x ∷ ys) ys) (filter_map_swap p f xs)
-    ∙ elim (p (f x)) as (λ b. cond b (f x ∷ map f (filter (λ y. p (f y)) xs)) (map f (filter (λ y. p (f y)) xs)) ≡ map f (cond b (x ∷ filter (λ y. p (f y)) xs) (filter (λ y. p (f y)) xs))) [ true ↦ refl | false ↦ refl ]
+    ∙ elim (p (f x)) as (λ b. cond b (f x ∷ map f (filter (λ y. p (f y)) xs)) (map f (filter (λ y. p (f y)) xs)) ≡ map f
+    (cond b (x ∷ filter (λ y. p (f y)) xs) (filter (λ y. p (f y)) xs))) [ true ↦ refl | false ↦ refl ]
 
 pub reverse_short : {A : Type 0} (xs : List A) → (length xs ≡ 0) ⊎ (length xs ≡ 1) → reverse xs ≡ xs
 reverse_short [] h = refl

@@ -1,5 +1,5 @@
 -- What a client holds by what its slot was given.
-use Rattle.std.proofs.Common.{◌≡◌, ℕ, zero, suc, ◌<◌, Bool, List, [], ◌∷◌, ◌++◌, map, length, Option, Some, None, refl, sym, ap, subst, ◌∙◌}
+use Rattle.std.proofs.Common.{◌≡◌, ℕ, suc, ◌<◌, Bool, List, [], ◌∷◌, ◌++◌, map, length, Option, Some, None, refl, sym, ap, subst, ◌∙◌, arith, length-append, ◌+◌}
 use Rattle.std.specs.Prelude.{◌^◌, codes, unwrap_or, IsUtf8}
 use Rattle.std.specs.List.{filter, filter_map, cons_option, AllByRecursion}
 use Rattle.std.specs.Str.{bytes_eq}
@@ -9,10 +9,9 @@ use Rattle.rt_json.specs.declared.tree.Json.{Json, Null, Num, Text}
 use Rattle.rt_json.specs.declared.tree.Json.TheVariants.{outs-Null, outs-Text, outs-Num, outs-List, outs-Object}
 use Rattle.rt_json.specs.declared.tree.Json.TheVariants as j
 use Rattle.rt_json.specs.declared.tree.named.Member.{Member}
-use Rattle.rt_json.specs.Fits.{FitsWithin, FitsFlat, FitsOver}
+use Rattle.rt_json.specs.Fits.{FitsWithin, FitsOver}
 use Rattle.rt_json.specs.Grammar.{IsWithin}
 use Rattle.rt_json.specs.Lookup.{member_of}
-use Rattle.rt_json.specs.Text.{IsNumber}
 use Rattle.rt_json.specs.Trees.{field, text_of}
 use Rattle.rt_json.specs.Written.{written}
 use Rattle.rt_phx.specs.declared.message.Message.{Message}
@@ -22,6 +21,7 @@ use Rattle.rt_phx.specs.Fits.{IsRef}
 use Rattle.rt_phx.specs.Frame.{ref_of, no_members, message, message_of_five, message_of_tree, spelled, tree_of_message}
 use Rattle.rt_catalog.specs.declared.catalog.Catalog.{Catalog}
 use Rattle.rt_entry.specs.declared.input.Input.{Input}
+use Rattle.rt_entry.specs.declared.input.Input.TheVariants as input
 use Rattle.rt_entry.specs.declared.input.Settings.{Settings}
 use Rattle.rt_entry.specs.declared.story.Opening.{Opening}
 use Rattle.rt_entry.specs.declared.story.Channel.{Channel}
@@ -30,9 +30,17 @@ use Rattle.rt_entry.specs.declared.answer.Item.TheVariants as item
 use Rattle.rt_entry.specs.Story.{members_at}
 use Rattle.rt_entry.specs.Doings.{story}
 use Rattle.rt_entry.specs.Machine.{start, run}
-use Rattle.rt_entry.specs.Presence.{Held, after_message, client_view, shown_meta, present_on, told_since, last_items, message_in, messages_on, IsReader, IsReadable, said_since, GivenClientsAgree}
+use Rattle.rt_entry.specs.Presence.{Held, after_message, client_view, shown_meta, present_on, told_since, last_items, message_in, messages_on, IsReader, said_since, GivenClientsAgree}
+use Rattle.rt_entry.specs.Headline.{MayArrive, MayFeed, MayTake}
+use Rattle.rt_entry.specs.Readable.{payload_levels, IsReadable}
+use Rattle.rt_laws.specs.Told.{CanBeTaken, AnswersAreReadable}
 use Rattle.rt_laws.proofs.Among.{from_contains}
-use Rattle.rt_laws.proofs.Plain.{filter_map_swap}
+use Rattle.rt_laws.proofs.Plain.{AllOf, filter_map_swap}
+use Rattle.rt_laws.proofs.Fitting.{null_fits, text_fits, number_fits}
+use Rattle.rt_laws.proofs.Doing.{InputFits}
+use Rattle.rt_laws.proofs.Telling.{said_fits, answer_fits}
+use Rattle.rt_laws.proofs.Recorded.{all_bound}
+use Rattle.rt_laws.proofs.Stocked.{run_stocked, start_stocked}
 use Rattle.rt_laws.proofs.Moves.{Moves, permuted}
 use Rattle.rt_laws.proofs.Metas.{list_items}
 use Rattle.rt_laws.proofs.Columns.{object_at}
@@ -51,18 +59,6 @@ ref_same (Text t) h = refl
 ref_same (Num n) h = refl
 ref_same _ h = absurd h
 
-text_fits : (levels : ℕ) (t : List ℕ) → IsUtf8 t → FitsWithin levels (Text t)
-text_fits zero t h = subst FitsFlat (sym (outs-Text t)) h
-text_fits (suc n) t h = subst (FitsOver (FitsWithin n)) (sym (outs-Text t)) h
-
-null_fits : (levels : ℕ) → FitsWithin levels Null
-null_fits zero = subst FitsFlat (sym outs-Null) tt
-null_fits (suc n) = subst (FitsOver (FitsWithin n)) (sym outs-Null) tt
-
-number_fits : (levels : ℕ) (digits : List ℕ) → IsNumber digits → FitsWithin levels (Num digits)
-number_fits zero digits h = subst FitsFlat (sym (outs-Num digits)) h
-number_fits (suc n) digits h = subst (FitsOver (FitsWithin n)) (sym (outs-Num digits)) h
-
 ref_fits : (levels : ℕ) (r : Json) → IsRef r → FitsWithin levels r
 ref_fits levels Null h = null_fits levels
 ref_fits levels (Text t) h = text_fits levels t h
@@ -77,15 +73,26 @@ abbrev five : Message → List Json
 five m = m.join_ref ∷ m.reference ∷ Text m.topic ∷ Text m.event ∷ m.payload ∷ []
 
 abbrev four : Message → List Member
-four m = field (codes "topic") (Text m.topic) ∷ field (codes "event") (Text m.event) ∷ field (codes "payload") m.payload ∷ field (codes "ref") m.reference ∷ []
+four m = field (codes "topic") (Text m.topic) ∷ field (codes "event") (Text m.event) ∷ field (codes "payload") m.payload ∷ field
+    (codes "ref") m.reference ∷ []
 
 tree_fits : (levels : ℕ) (v : Version) (m : Message) → IsReadable levels m → FitsWithin (suc levels) (tree_of_message v m)
 tree_fits n V1 m f =
-    subst (FitsOver (FitsWithin n)) (sym (outs-Object (four m)))
-    ((names_fit.0, text_fits n m.topic f.topic), ((names_fit.1, text_fits n m.event f.event), ((names_fit.2, f.payload), ((names_fit.3, ref_fits n m.reference f.reference), tt))))
+    subst (FitsOver (FitsWithin n)) (sym (outs-Object (four m))) (
+      (names_fit.0, text_fits n m.topic f.topic),
+      (
+        (names_fit.1, text_fits n m.event f.event),
+        ((names_fit.2, f.payload), ((names_fit.3, ref_fits n m.reference f.reference), tt)),
+      ),
+    )
 tree_fits n V2 m f =
-    subst (FitsOver (FitsWithin n)) (sym (outs-List (five m)))
-    (ref_fits n m.join_ref f.join_ref, (ref_fits n m.reference f.reference, (text_fits n m.topic f.topic, (text_fits n m.event f.event, (f.payload, tt)))))
+    subst (FitsOver (FitsWithin n)) (sym (outs-List (five m))) (
+      ref_fits n m.join_ref f.join_ref,
+      (
+        ref_fits n m.reference f.reference,
+        (text_fits n m.topic f.topic, (text_fits n m.event f.event, (f.payload, tt))),
+      ),
+    )
 
 tree_says : (levels : ℕ) (v : Version) (m : Message) → IsReadable levels m → message_of_tree v (tree_of_message v m) ≡ Some (read_as v m)
 tree_says levels V1 m f =
@@ -94,9 +101,12 @@ tree_says levels V1 m f =
     (topic >>= text_of) >>= λ t. (event >>= text_of) >>= λ e. ref_of (unwrap_or join_ref Null) >>= λ a. ref_of (unwrap_or reference Null) >>= λ b.
     Some (message a b t e (unwrap_or payload no_members)) in
     let at : List ℕ → Option Json = member_of tree in
-    ap (λ (o : Option Json). out o (at (codes "event")) (at (codes "join_ref")) (at (codes "ref")) (at (codes "payload"))) (object_at (four m) (codes "topic"))
-    ∙ ap (λ (o : Option Json). out (Some (Text m.topic)) o (at (codes "join_ref")) (at (codes "ref")) (at (codes "payload"))) (object_at (four m) (codes "event"))
-    ∙ ap (λ (o : Option Json). out (Some (Text m.topic)) (Some (Text m.event)) o (at (codes "ref")) (at (codes "payload"))) (object_at (four m) (codes "join_ref"))
+    ap (λ (o : Option Json). out o (at (codes "event")) (at (codes "join_ref")) (at (codes "ref")) (at (codes "payload")))
+    (object_at (four m) (codes "topic"))
+    ∙ ap (λ (o : Option Json). out (Some (Text m.topic)) o (at (codes "join_ref")) (at (codes "ref")) (at (codes "payload")))
+    (object_at (four m) (codes "event"))
+    ∙ ap (λ (o : Option Json). out (Some (Text m.topic)) (Some (Text m.event)) o (at (codes "ref")) (at (codes "payload")))
+    (object_at (four m) (codes "join_ref"))
     ∙ ap (λ (o : Option Json). out (Some (Text m.topic)) (Some (Text m.event)) None o (at (codes "payload"))) (object_at (four m) (codes "ref"))
     ∙ ap (λ (o : Option Json). out (Some (Text m.topic)) (Some (Text m.event)) None (Some m.reference) o) (object_at (four m) (codes "payload"))
     ∙ ap (λ (o : Option Json). o >>= λ b. Some (message Null b m.topic m.event m.payload)) (ref_same m.reference f.reference)
@@ -123,7 +133,8 @@ module _ (levels : ℕ) (read : List ℕ → Option Json) (reader : IsReader (su
   reads_one : (v : Version) (m : Message) → IsReadable levels m → message_in read v (item.Message (spelled v m)) ≡ Some (read_as v m)
   reads_one v m f =
       let tree = tree_of_message v m in
-      ap (λ (o : Option Json). o >>= message_of_tree v) (reader.reads (written tree) tree (writes.text tree (tree_fits levels v m f))) ∙ tree_says levels v m f
+      ap (λ (o : Option Json). o >>= message_of_tree v) (reader.reads (written tree) tree (writes.text tree (tree_fits levels v m f)))
+      ∙ tree_says levels v m f
 
   reads_all : (v : Version) (ms : List Message) → AllByRecursion (IsReadable levels) ms
       → filter_map (message_in read v) (as_items v ms) ≡ map (read_as v) ms
@@ -145,7 +156,8 @@ module _ (levels : ℕ) (read : List ℕ → Option Json) (reader : IsReader (su
         let held = client_view [] early in
         let heard : messages_on read v ch.topic given ≡ early ++ map (read_as v) (told_since c s ch before) =
         ap (messages_on read v ch.topic) e
-        ∙ ap (filter on) (filter_map-append (message_in read v) front (as_items v said) ∙ ap (λ (ms : List Message). filter_map (message_in read v) front ++ ms) (reads_all v said readable))
+        ∙ ap (filter on) (filter_map-append (message_in read v) front (as_items v said)
+        ∙ ap (λ (ms : List Message). filter_map (message_in read v) front ++ ms) (reads_all v said readable))
         ∙ filter-append on (filter_map (message_in read v) front) (map (read_as v) said)
         ∙ ap (λ (ms : List Message). early ++ ms) (same_topic v ch.topic said ∙ ap (map (read_as v)) (since_on c s ch before)) in
         let is : client_view [] (messages_on read v ch.topic given) ≡ client_view held (told_since c s ch before) =
@@ -153,9 +165,54 @@ module _ (levels : ℕ) (read : List ℕ → Option Json) (reader : IsReader (su
         let P : List Held → Type 0 = λ x. Moves x (map shown_meta (present_on c s before ch.topic)) in
         subst P (sym is) (agree held)
 
-pub given_agree : (c : Catalog) (s : Settings) → ((levels : ℕ) → IsWritten levels) → GivenClientsAgree c s
-given_agree c s writes steps later before ch o levels read taken short u reader readable =
+given_fits : (c : Catalog) (m : ℕ) (i : Input) → MayFeed c m i → InputFits i
+given_fits c m (input.Poll changes) may = all_bound c changes may
+given_fits c m (input.Tick n) may = tt
+given_fits c m input.Stop may = tt
+given_fits c m (input.Opened slot version claims) may = absurd may
+given_fits c m (input.Frame slot bytes) may = absurd may
+given_fits c m (input.Gone slot) may = absurd may
+
+arrived_fits : (i : Input) → MayArrive i → InputFits i
+arrived_fits (input.Opened slot version claims) may = tt
+arrived_fits (input.Frame slot bytes) may = tt
+arrived_fits (input.Gone slot) may = tt
+arrived_fits (input.Poll changes) may = absurd may
+arrived_fits (input.Tick n) may = absurd may
+arrived_fits input.Stop may = absurd may
+
+taken_fits : (c : Catalog) (m : ℕ) (i : Input) → MayTake c m i → InputFits i
+taken_fits c m (input.Opened slot version claims) may = tt
+taken_fits c m (input.Frame slot bytes) may = tt
+taken_fits c m (input.Gone slot) may = tt
+taken_fits c m (input.Poll changes) may = given_fits c m (input.Poll changes) may
+taken_fits c m (input.Tick n) may = tt
+taken_fits c m input.Stop may = tt
+
+behind : {A : Type 0} (B : A → Type 0) (later before : List A) → AllOf B (later ++ before) → AllOf B before
+behind B [] before a = a
+behind B (x ∷ later) before a = behind B later before a.1
+
+pub given_agree : (c : Catalog) (s : Settings) → IsWritten payload_levels → GivenClientsAgree c s
+given_agree c s writes names few steps later before ch o read allowed taken u reader =
+    let w = run c s steps start in
+    let stocked = run_stocked c s InputFits arrived_fits (given_fits c) 0 steps start
+    (start_stocked c s InputFits arrived_fits (given_fits c)) allowed in
+    let all : AllOf InputFits (later ++ before) = subst (AllOf InputFits) taken stocked.journal in
+    let count = stocked.count in
+    let long : length w.journal ≡ length later + length before = ap length taken ∙ length-append later before in
+    let short : length before < 2 ^ 64 = omega arith in
+    let readable = said_fits c s names ch before short (behind InputFits later before all) in
     let here = from_contains (members_at (story c s before)) ch u.member in
     let d = due_since c s before ch o here u.opening in
     permuted _ _
-    (agrees_at levels read reader (writes levels) c s (last_items ((run c s steps start).slots ch.slot).given) before ch o d.0 short (u.items ∙ d.1) readable (λ held. agrees c s before ch held short here u.enabled))
+    (agrees_at payload_levels read reader writes c s (last_items (w.slots ch.slot).given) before ch o d.0 short (u.items ∙ d.1) readable
+    (λ held. agrees c s before ch held short here u.enabled))
+
+-- the inputs of a journal that may be taken
+all_taken : (c : Catalog) (inputs : List Input) → AllByRecursion (CanBeTaken c) inputs → AllOf InputFits inputs
+all_taken c [] a = tt
+all_taken c (i ∷ inputs) a = (taken_fits c a.0.0 i a.0.1, all_taken c inputs a.1)
+
+pub answers_readable : (c : Catalog) (s : Settings) → AnswersAreReadable c s
+answers_readable c s names before i slot m short may there = answer_fits c s names before i slot m short (all_taken c (i ∷ before) may) there

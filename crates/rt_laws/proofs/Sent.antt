@@ -27,7 +27,8 @@ row_delivers (Some (seen.Restrictive n)) e = absurd (cc)
 
 first_sent : (b1 b2 b3 b4 b5 : Bool) (v : Verdict) → (is_sent v ≡ true → v ≡ Deliver)
     → is_sent (first_case ((b1, Denied Event) ∷ (b2, Error400) ∷ (b3, Error401) ∷ (b4, Denied Filter) ∷ (b5, v) ∷ []) Deliver) ≡ true
-    → first_case ((b1, Denied Event) ∷ (b2, Error400) ∷ (b3, Error401) ∷ (b4, Denied Filter) ∷ (b5, v) ∷ []) Deliver ≡ cond b2 Error400 (cond b3 Error401 Deliver)
+    → first_case ((b1, Denied Event) ∷ (b2, Error400) ∷ (b3, Error401) ∷ (b4, Denied Filter) ∷ (b5, v) ∷ []) Deliver ≡ cond b2 Error400
+    (cond b3 Error401 Deliver)
 first_sent true b2 b3 b4 b5 v f e = absurd (cc)
 first_sent false true b3 b4 b5 v f e = refl
 first_sent false false true b4 b5 v f e = refl
@@ -39,5 +40,6 @@ pub verdict_when_sent : (c : Catalog) (tables : Tables) (sub : Subscription) (ch
     → verdict_of c tables sub ch ≡ sent_verdict c sub.role ch
 unfolding verdict_of
 verdict_when_sent c tables sub ch e =
-    first_sent (not (asks_for sub.wanted ch.verb)) (lacks_key ch) (hides_key c sub.role ch) (not (passes_filter sub ch)) (writes ch.verb && is_secured c ch.table) (judged_row c tables sub ch)
+    first_sent (not (asks_for sub.wanted ch.verb)) (lacks_key ch) (hides_key c sub.role ch) (not (passes_filter sub ch))
+    (writes ch.verb && is_secured c ch.table) (judged_row c tables sub ch)
     (row_delivers (option_map (visibility c.rules.tables (who_is c sub.role sub.claims) tables ch.table) (row_of tables ch))) e

@@ -73,7 +73,8 @@ Below n h = h.channel.number < n
 
 -- every channel of the slot on the topic departs
 abbrev pub MakesRoom : List Member → Channel → List Part → Type 0
-MakesRoom members ch front = (h : Member) → Among members h → h.channel.slot ≡ ch.slot → h.channel.topic ≡ ch.topic → has h.channel.number (departed_in front) ≡ true
+MakesRoom members ch front = (h : Member) → Among members h → h.channel.slot ≡ ch.slot → h.channel.topic ≡ ch.topic
+    → has h.channel.number (departed_in front) ≡ true
 
 -- the track is a member's, on its topic, under the input's number
 pub record IsOfMember (n : ℕ) (members : List Member) (t : Track) : Type 0 where
@@ -126,7 +127,8 @@ plain_turn : {A : Type 0} (n : ℕ) (act : List ℕ → A → List Part) (B : A 
     → (gone : List ℕ) (xs : List A) → AllOf B xs → AllOf (Plain true n) (in_turn act gone xs)
 plain_turn n act B f gone [] a = tt
 plain_turn n act B f gone (x ∷ xs) a =
-    all_append (Plain true n) (act gone x) (in_turn act (departed_in (act gone x) ++ gone) xs) (f gone x a.0) (plain_turn n act B f (departed_in (act gone x) ++ gone) xs a.1)
+    all_append (Plain true n) (act gone x) (in_turn act (departed_in (act gone x) ++ gone) xs) (f gone x a.0)
+    (plain_turn n act B f (departed_in (act gone x) ++ gone) xs a.1)
 
 plain_diffs : (n : ℕ) (now : Now) (gone topic : List ℕ) (joins leaves : List Track) → AllOf (Plain true n) (diffs now gone topic joins leaves)
 plain_diffs n now gone topic joins leaves = all_map (Plain true n) (diff_to joins leaves) (filter (watches gone topic) now.members) (λ h. refl)
@@ -187,7 +189,8 @@ module _ (now : Now) (a : AllOf (Below now.number) now.members) (apart : AreApar
   pub plain_end : (gone : List ℕ) (slot : ℕ) (name : EndName) → AllOf (Plain true now.number) (end_of now gone slot name)
   plain_end gone slot name =
       all_append (Plain true now.number) (in_turn (depart now) gone (channels_of now slot)) (Ends slot name ∷ [])
-      (plain_turn now.number (depart now) (Below now.number) (λ g h b. plain_depart now.number now g h b) gone (channels_of now slot) (channels_below slot)) (tt, tt)
+      (plain_turn now.number (depart now) (Below now.number) (λ g h b. plain_depart now.number now g h b) gone (channels_of now slot)
+      (channels_below slot)) (tt, tt)
 
   pub plain_end_if : (slot : ℕ) (name : EndName) (o : Option Opening) → AllOf (Plain true now.number) (end_if_open now slot name o)
   plain_end_if slot name None = tt
@@ -195,17 +198,24 @@ module _ (now : Now) (a : AllOf (Below now.number) now.members) (apart : AreApar
 
   pub plain_open : (slot : ℕ) (o : Opening) → AllOf (Plain true now.number) (open_parts now slot o)
   plain_open slot o =
-      all_append (Plain true now.number) (end_if_open now slot end_name.Replaced (opening_in now slot)) (Opens slot o ∷ (if now.stopped then Ends slot end_name.Stopped ∷ [] else []))
-      (plain_end_if slot end_name.Replaced (opening_in now slot))
-      (tt, elim now.stopped as (λ t. AllOf (Plain true now.number) (if t then Ends slot end_name.Stopped ∷ [] else [])) [ true ↦ (tt, tt) | false ↦ tt ])
+      all_append (Plain true now.number) (end_if_open now slot end_name.Replaced (opening_in now slot))
+      (Opens slot o ∷ (if now.stopped then Ends slot end_name.Stopped ∷ [] else []))
+      (plain_end_if slot end_name.Replaced (opening_in now slot)) (
+        tt,
+        elim now.stopped as (λ t. AllOf (Plain true now.number) (if t then Ends slot end_name.Stopped ∷ [] else []))
+            [ true ↦ (tt, tt) | false ↦ tt ],
+      )
 
   plain_tick : (moment : ℕ) (gone : List ℕ) (x : ℕ × Option Opening) → AllOf (Plain true now.number) (tick_parts now moment gone x)
   plain_tick moment gone (slot, None) = tt
   plain_tick moment gone (slot, Some o) =
       let ended = filter (has_run_out moment) (channels_of now slot) in
-      elim (is_idle moment o) as (λ t. AllOf (Plain true now.number) (elim t [ true ↦ end_of now gone slot end_name.Idle | false ↦ in_turn (fail now (codes "token expired")) gone ended ])) [
+      elim (is_idle moment o) as (λ t. AllOf (Plain true now.number)
+      (elim t [ true ↦ end_of now gone slot end_name.Idle | false ↦ in_turn (fail now (codes "token expired")) gone ended ])) [
         | true ↦ plain_end gone slot end_name.Idle
-        | false ↦ plain_turn now.number (fail now (codes "token expired")) (Below now.number) (λ g h b. plain_fail now.number now (codes "token expired") g h b) gone ended (all_filter (Below now.number) (has_run_out moment) (channels_of now slot) (channels_below slot))
+        | false ↦ plain_turn now.number (fail now (codes "token expired")) (Below now.number)
+            (λ g h b. plain_fail now.number now (codes "token expired") g h b) gone ended
+            (all_filter (Below now.number) (has_run_out moment) (channels_of now slot) (channels_below slot))
       ]
 
   pub plain_ticks : (moment : ℕ) (xs : List (ℕ × Option Opening)) → AllOf (Plain true now.number) (in_turn (tick_parts now moment) [] xs)
@@ -231,7 +241,8 @@ module _ (now : Now) (a : AllOf (Below now.number) now.members) (apart : AreApar
 
   found : (slot : ℕ) (topic : List ℕ) → Maybe (Among now.members) (channel_on now slot topic)
   found slot topic =
-      find_of (Among now.members) (λ m. is_on topic m.channel) (channels_of now slot) (all_filter (Among now.members) (is_of_slot slot) now.members (all_themselves now.members))
+      find_of (Among now.members) (λ m. is_on topic m.channel) (channels_of now slot)
+      (all_filter (Among now.members) (is_of_slot slot) now.members (all_themselves now.members))
 
   found_below : (slot : ℕ) (topic : List ℕ) → Maybe (Below now.number) (channel_on now slot topic)
   found_below slot topic = find_of (Below now.number) (λ m. is_on topic m.channel) (channels_of now slot) (channels_below slot)
@@ -266,8 +277,11 @@ module _ (now : Now) (a : AllOf (Below now.number) now.members) (apart : AreApar
       let ok = reply_ok ch.join_ref m (joined_response ch) in
       let subscribed = tell_if (has_bindings ch) ch.slot (subscribed_message ch) in
       let state = tell_if ch.presence ch.slot (presence_state ch (present_on now gone ch.topic)) in
-      joining front ch (tell ch.slot ok ++ subscribed ++ state) f
-      (refl, all_append (Plain true now.number) subscribed state (plain_tell_if now.number (has_bindings ch) ch.slot (subscribed_message ch) refl) (plain_tell_if now.number ch.presence ch.slot (presence_state ch (present_on now gone ch.topic)) refl))
+      joining front ch (tell ch.slot ok ++ subscribed ++ state) f (
+        refl,
+        all_append (Plain true now.number) subscribed state (plain_tell_if now.number (has_bindings ch) ch.slot (subscribed_message ch) refl)
+            (plain_tell_if now.number ch.presence ch.slot (presence_state ch (present_on now gone ch.topic)) refl),
+      )
       n.0 (λ h i e t. room h i (e ∙ n.1) (t ∙ n.2)) refl
   shape_result slot gone m front (Err why) f n room =
       plain (all_append (Plain true now.number) front (tell slot (reply_error m.join_ref m why)) f (refl, tt))
@@ -291,23 +305,30 @@ module _ (now : Now) (a : AllOf (Below now.number) now.members) (apart : AreApar
           key = key_of now.number config.key;
         }) in
         let with_role : Config → Claims → ℕ → Checked Channel = λ config claims role.
-        demand (nat_lt others channel_limit) (codes "too many channels") >> λ _. told_by registry_text (bindings_for c claims (map binding_of config.bindings)) >> made config claims role in
+        demand (nat_lt others channel_limit) (codes "too many channels") >> λ _. told_by registry_text
+        (bindings_for c claims (map binding_of config.bindings)) >> made config claims role in
         let with_claims : Config → Claims → Checked Channel = λ config claims. told_by registry_text (role_for c claims) >> with_role config claims in
         let with_config : Config → Checked Channel = λ config.
-        demand (not config.private) (codes "private channel") >> λ _. asked_claims s now o (member_of m.payload (codes "access_token")) >> with_claims config in
+        demand (not config.private) (codes "private channel") >> λ _. asked_claims s now o
+        (member_of m.payload (codes "access_token")) >> with_claims config in
         made_by now.number slot m.topic (or_why (codes "bad config") (config_of m.payload)) with_config (λ config.
-        made_by now.number slot m.topic (demand (not config.private) (codes "private channel")) (λ _. asked_claims s now o (member_of m.payload (codes "access_token")) >> with_claims config) (λ x.
+        made_by now.number slot m.topic (demand (not config.private) (codes "private channel"))
+        (λ _. asked_claims s now o (member_of m.payload (codes "access_token")) >> with_claims config) (λ x.
         made_by now.number slot m.topic (asked_claims s now o (member_of m.payload (codes "access_token"))) (with_claims config) (λ claims.
         made_by now.number slot m.topic (told_by registry_text (role_for c claims)) (with_role config claims) (λ role.
-        made_by now.number slot m.topic (demand (nat_lt others channel_limit) (codes "too many channels")) (λ _. told_by registry_text (bindings_for c claims (map binding_of config.bindings)) >> made config claims role) (λ y.
-        made_by now.number slot m.topic (told_by registry_text (bindings_for c claims (map binding_of config.bindings))) (made config claims role) (λ bindings. (refl, refl, refl)))))))
+        made_by now.number slot m.topic (demand (nat_lt others channel_limit) (codes "too many channels"))
+        (λ _. told_by registry_text (bindings_for c claims (map binding_of config.bindings)) >> made config claims role) (λ y.
+        made_by now.number slot m.topic (told_by registry_text (bindings_for c claims (map binding_of config.bindings))) (made config claims role)
+        (λ bindings. (refl, refl, refl)))))))
 
     shape_join : (slot : ℕ) (o : Opening) (m : Message) → Shaped (join_parts c s now slot o m)
     shape_join slot o m =
         let former = option_to_list (channel_on now slot m.topic) in
         by_case (is_channel_topic m.topic) (join_over_former c s now slot o m former) (tell slot (reply_error m.join_ref m (codes "unmatched topic")))
-        (shape_result slot (map (λ (h : Member). h.channel.number) former) m (in_turn (close now) [] former) (channel_of_join c s now slot o (others now slot m.topic) m)
-        (plain_turn now.number (close now) (Below now.number) (λ g h b. plain_close now.number now g h b) [] former (option_all (Below now.number) (channel_on now slot m.topic) (found_below slot m.topic)))
+        (shape_result slot (map (λ (h : Member). h.channel.number) former) m (in_turn (close now) [] former)
+        (channel_of_join c s now slot o (others now slot m.topic) m)
+        (plain_turn now.number (close now) (Below now.number) (λ g h b. plain_close now.number now g h b) [] former
+        (option_all (Below now.number) (channel_on now slot m.topic) (found_below slot m.topic)))
         (join_made slot o (others now slot m.topic) m) (room slot m.topic))
         (plain (refl, tt))
 
@@ -319,7 +340,8 @@ module _ (now : Now) (a : AllOf (Below now.number) now.members) (apart : AreApar
     shape_ask o h m ask.broadcast here = plain (plain_broadcast now.number now h.channel m)
     shape_ask o h m (track tree) here =
         let t = track_by now h.channel tree in
-        tracking (tell h.channel.slot (reply_ok h.channel.join_ref m no_members)) t (diffs now [] h.channel.topic (t ∷ []) (option_to_list (track_of now h.channel.number)))
+        tracking (tell h.channel.slot (reply_ok h.channel.join_ref m no_members)) t
+        (diffs now [] h.channel.topic (t ∷ []) (option_to_list (track_of now h.channel.number)))
         (refl, tt) (quiet_diffs now [] h.channel.topic (t ∷ []) (option_to_list (track_of now h.channel.number)))
         (any_among (λ (g : Member). g.channel.number == h.channel.number) now.members h here (eqb_same h.channel.number))
         (all_among (Below now.number) now.members h a here) (record { member = h; here = here; number = refl; topic = refl; reference = refl }) refl
@@ -331,14 +353,17 @@ module _ (now : Now) (a : AllOf (Below now.number) now.members) (apart : AreApar
         → Shaped (channel_parts c s now slot o m h)
     shape_channel slot o m None here = plain (refl, tt)
     shape_channel slot o m (Some h) here =
-        by_case (is_shut h.channel m) (tell slot (reply_error h.channel.join_ref m (codes "presence disabled"))) (ask_parts c s now o h m (ask_of m)) (plain (refl, tt)) (shape_ask o h m (ask_of m) here)
+        by_case (is_shut h.channel m) (tell slot (reply_error h.channel.join_ref m (codes "presence disabled")))
+        (ask_parts c s now o h m (ask_of m)) (plain (refl, tt)) (shape_ask o h m (ask_of m) here)
 
     shape_message : (slot : ℕ) (o : Opening) (m : Option Message) → Shaped (message_parts c s now slot o m)
     shape_message slot o None = plain (plain_end [] slot end_name.BadFrame)
     shape_message slot o (Some m) =
-        by_test (is_heartbeat m) (tell slot (reply_ok m.join_ref m no_members)) (if is_join m then join_parts c s now slot o m else channel_parts c s now slot o m (channel_on now slot m.topic))
+        by_test (is_heartbeat m) (tell slot (reply_ok m.join_ref m no_members))
+        (if is_join m then join_parts c s now slot o m else channel_parts c s now slot o m (channel_on now slot m.topic))
         (plain (refl, tt))
-        (by_test (is_join m) (join_parts c s now slot o m) (channel_parts c s now slot o m (channel_on now slot m.topic)) (shape_join slot o m) (shape_channel slot o m (channel_on now slot m.topic) (found slot m.topic)))
+        (by_test (is_join m) (join_parts c s now slot o m) (channel_parts c s now slot o m (channel_on now slot m.topic)) (shape_join slot o m)
+        (shape_channel slot o m (channel_on now slot m.topic) (found slot m.topic)))
 
     shape_frame : (slot : ℕ) (bytes : List ℕ) (o : Option Opening) → Shaped (frame_parts c s now slot bytes o)
     shape_frame slot bytes None = plain tt
@@ -351,9 +376,11 @@ module _ (now : Now) (a : AllOf (Below now.number) now.members) (apart : AreApar
     pub plain_change_all : (subs : List Subscription) (tables : List (List Row)) (views : List ChannelView) (ch : Change)
         → AllOf (Plain false now.number) (change_parts_to_all c s subs tables views ch)
     plain_change_all subs tables views ch =
-        elim (is_truncate ch.verb) as (λ t. AllOf (Plain false now.number) (elim t [ true ↦ [] | false ↦ flat_map (change_parts_to c s subs tables ch) views ])) [
+        elim (is_truncate ch.verb) as (λ t. AllOf (Plain false now.number)
+        (elim t [ true ↦ [] | false ↦ flat_map (change_parts_to c s subs tables ch) views ])) [
           | true ↦ tt
-          | false ↦ all_flat (Plain false now.number) (change_parts_to c s subs tables ch) views (λ to. plain_change to ch (filter (gets c s tables ch to.channel) subs))
+          | false ↦ all_flat (Plain false now.number) (change_parts_to c s subs tables ch) views
+              (λ to. plain_change to ch (filter (gets c s tables ch to.channel) subs))
         ]
 
     pub shape_doings : (tables : List (List Row)) (i : Input) → Shape (fine_for i) now.number now.members (doings c s now tables i)

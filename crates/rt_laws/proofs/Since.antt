@@ -88,7 +88,8 @@ ends_before : (v : Version) (xs : List Item) (ms : List Message) → end_count (
 ends_before v xs ms = ends_more v 0 xs ms
 
 last_case : (b : Bool) (bytes : List ℕ) (xs ys : List Item) → last_items (xs ++ ys) ≡ last_items xs ++ ys
-    → elim b as (λ t. List Item) [ true ↦ item.Message bytes ∷ (xs ++ ys) | false ↦ last_items (xs ++ ys) ] ≡ elim b as (λ t. List Item) [ true ↦ item.Message bytes ∷ xs | false ↦ last_items xs ] ++ ys
+    → elim b as (λ t. List Item) [ true ↦ item.Message bytes ∷ (xs ++ ys) | false ↦ last_items (xs ++ ys) ] ≡ elim b as
+    (λ t. List Item) [ true ↦ item.Message bytes ∷ xs | false ↦ last_items xs ] ++ ys
 last_case true bytes xs ys e = refl
 last_case false bytes xs ys e = e
 
@@ -135,18 +136,21 @@ Fits v old = (o : Opening) → old ≡ Some o → v ≡ o.version
 
 opens_case : (b : Bool) (slot : ℕ) (p : Opening) (ps : List Part) (old : Option Opening) (v : Version) → Fits v old
     → ((w : Version) (x : Option Opening) → Fits w x → Fits (version_after w (told_by slot ps)) (opened_after slot ps x))
-    → Fits (version_after v (cons_option (if b then Some (a.Opened p.version) else None) (told_by slot ps))) (opened_after slot ps (if b then Some p else old))
+    → Fits (version_after v (cons_option (if b then Some (a.Opened p.version) else None) (told_by slot ps)))
+    (opened_after slot ps (if b then Some p else old))
 opens_case true slot p ps old v f next = next p.version (Some p) (λ o e. let same : p ≡ o = cc in ap (λ (x : Opening). x.version) same)
 opens_case false slot p ps old v f next = next v old f
 
-ends_case : (b : Bool) (slot : ℕ) (x : Answer) (ps : List Part) (old : Option Opening) (v : Version) → version_after v (x ∷ told_by slot ps) ≡ version_after v (told_by slot ps)
+ends_case : (b : Bool) (slot : ℕ) (x : Answer) (ps : List Part) (old : Option Opening) (v : Version)
+    → version_after v (x ∷ told_by slot ps) ≡ version_after v (told_by slot ps)
     → Fits v old → ((w : Version) (y : Option Opening) → Fits w y → Fits (version_after w (told_by slot ps)) (opened_after slot ps y))
     → Fits (version_after v (cons_option (if b then Some x else None) (told_by slot ps))) (opened_after slot ps (if b then None else old))
 ends_case true slot x ps old v same f next =
     let P : Version → Type 0 = λ w. Fits w (opened_after slot ps None) in subst P (sym same) (next v None (λ o e. absurd (cc)))
 ends_case false slot x ps old v same f next = next v old f
 
-tells_case : (b : Bool) (slot : ℕ) (x : Answer) (ps : List Part) (old : Option Opening) (v : Version) → version_after v (x ∷ told_by slot ps) ≡ version_after v (told_by slot ps)
+tells_case : (b : Bool) (slot : ℕ) (x : Answer) (ps : List Part) (old : Option Opening) (v : Version)
+    → version_after v (x ∷ told_by slot ps) ≡ version_after v (told_by slot ps)
     → Fits (version_after v (told_by slot ps)) (opened_after slot ps old)
     → Fits (version_after v (cons_option (if b then Some x else None) (told_by slot ps))) (opened_after slot ps old)
 tells_case true slot x ps old v same f = let P : Version → Type 0 = λ w. Fits w (opened_after slot ps old) in subst P (sym same) f
@@ -191,7 +195,8 @@ module _ (c : Catalog) (s : Settings) where
   told_more journal i slot = ap (told slot) (answers_more c s journal i) ∙ told_append slot (all_answers c s journal) (answers c s journal i)
 
   -- what is open was opened last, in its version
-  pub version_is : (journal : List Input) (slot : ℕ) → Fits (version_after V1 (told slot (all_answers c s journal))) (opening_at (story c s journal) slot)
+  pub version_is : (journal : List Input) (slot : ℕ)
+      → Fits (version_after V1 (told slot (all_answers c s journal))) (opening_at (story c s journal) slot)
   unfolding story
   version_is [] slot o e = absurd (cc)
   version_is (i ∷ journal) slot o e =
@@ -201,9 +206,11 @@ module _ (c : Catalog) (s : Settings) where
       let before = option_map (heard_in i (moment_at st) slot) (opening_at st slot) in
       let P : List Answer → Type 0 = λ xs. Fits (version_after V1 xs) (opened_after slot parts before) in
       let Q : Version → Type 0 = λ v. Fits v (opened_after slot parts before) in
-      let all : Fits (version_after V1 (told slot (all_answers c s (i ∷ journal)))) (opened_after slot parts before) = subst P (sym (told_more journal i slot ∙ ap (λ (xs : List Answer). old ++ xs) (told_parts journal i slot)))
+      let all : Fits (version_after V1 (told slot (all_answers c s (i ∷ journal)))) (opened_after slot parts before) = subst P
+      (sym (told_more journal i slot ∙ ap (λ (xs : List Answer). old ++ xs) (told_parts journal i slot)))
       (subst Q (sym (version_append V1 old (told_by slot parts)))
-      (fits_after slot parts (version_after V1 old) before (fits_heard i (moment_at st) slot (version_after V1 old) (opening_at st slot) (version_is journal slot)))) in
+      (fits_after slot parts (version_after V1 old) before (fits_heard i (moment_at st) slot (version_after V1 old) (opening_at st slot)
+      (version_is journal slot)))) in
       all o e
 
   -- what a slot is told ends with what it is told since the join
@@ -220,16 +227,27 @@ module _ (c : Catalog) (s : Settings) where
   said_more : (ch : Channel) (i : Input) (before : List Input) → ch.number ≤ length before
       → said_since c s ch (i ∷ before) ≡ said_since c s ch before ++ filter_map said_by (told ch.slot (answers c s before i))
   said_more ch i before le =
-      let yes : nat_le ch.number (length before) ≡ true = elim (leb_tells ch.number (length before)) [ inl t ↦ t.0 | inr t ↦ let lt = t.1 in absurd (omega arith) ] in
-      ap (λ (x : Bool). elim x as (λ k. List Message) [ true ↦ said_since c s ch before ++ filter_map said_by (told ch.slot (answers c s before i)) | false ↦ [] ]) yes
+      let yes : nat_le ch.number (length before) ≡ true = elim
+      (leb_tells ch.number (length before)) [ inl t ↦ t.0 | inr t ↦ let lt = t.1 in absurd (omega arith) ] in
+      ap (λ (x : Bool). elim x as (λ k. List Message) [
+        | true ↦ said_since c s ch before ++ filter_map said_by
+            (told ch.slot (answers c s before i))
+        | false ↦ []
+      ]) yes
 
   none_said : (ch : Channel) (before : List Input) → length before ≤ ch.number → said_since c s ch before ≡ []
   none_said ch [] le = refl
   none_said ch (i ∷ before) le =
-      let no : nat_le ch.number (length before) ≡ false = elim (leb_tells ch.number (length before)) [ inl t ↦ let k = t.1 in absurd (omega arith) | inr t ↦ t.0 ] in
-      ap (λ (x : Bool). elim x as (λ k. List Message) [ true ↦ said_since c s ch before ++ filter_map said_by (told ch.slot (answers c s before i)) | false ↦ [] ]) no
+      let no : nat_le ch.number (length before) ≡ false = elim
+      (leb_tells ch.number (length before)) [ inl t ↦ let k = t.1 in absurd (omega arith) | inr t ↦ t.0 ] in
+      ap (λ (x : Bool). elim x as (λ k. List Message) [
+        | true ↦ said_since c s ch before ++ filter_map said_by
+            (told ch.slot (answers c s before i))
+        | false ↦ []
+      ]) no
 
-  since_more : (journal : List Input) (i : Input) (ch : Channel) → ch.number ≤ length journal → Either c s journal i ch → Since journal ch → Since (i ∷ journal) ch
+  since_more : (journal : List Input) (i : Input) (ch : Channel) → ch.number ≤ length journal → Either c s journal i ch → Since journal ch
+      → Since (i ∷ journal) ch
   since_more journal i ch le k past =
       let said = said_since c s ch journal in
       let new = filter_map said_by (told ch.slot (answers c s journal i)) in
@@ -242,14 +260,19 @@ module _ (c : Catalog) (s : Settings) where
             ∙ ap (λ (xs : List Answer). past.0 ++ xs) (sym (map-append says said new) ∙ ap as_said (sym (said_more ch i journal le))),
       )
 
-  since_by : (journal : List Input) (i : Input) (ch : Channel) → (Among (members_at (story c s journal)) ch → Since journal ch) → Either c s journal i ch
+  since_by : (journal : List Input) (i : Input) (ch : Channel) → (Among (members_at (story c s journal)) ch → Since journal ch)
+      → Either c s journal i ch
       → Since (i ∷ journal) ch
   since_by journal i ch past (inl k) =
       let lt = member_number c s journal ch k.0 in since_more journal i ch (omega arith) (inl k) (past k.0)
   since_by journal i ch past (inr k) =
       let e = joins_numbered c s journal i ch k in
       let all = told ch.slot (all_answers c s journal) in
-      since_more journal i ch (omega arith) (inr k) (all, sym (append-nil all) ∙ ap (λ (ms : List Message). all ++ as_said ms) (sym (none_said ch journal (omega arith))))
+      since_more journal i ch (omega arith) (inr k) (
+        all,
+        sym (append-nil all)
+            ∙ ap (λ (ms : List Message). all ++ as_said ms) (sym (none_said ch journal (omega arith))),
+      )
 
   pub since : (journal : List Input) (ch : Channel) → Among (members_at (story c s journal)) ch → Since journal ch
   since [] ch here = absurd (let P : List Channel → Type 0 = λ chs. Among chs ch in subst P (none_first c s) here)
@@ -276,7 +299,8 @@ module _ (c : Catalog) (s : Settings) where
 
   on_case : (ch : Channel) (m : Message) (b : Bool) (rest : List (ℕ × Answer)) (k : Bool) → bytes_eq m.topic ch.topic ≡ k
       → filter (λ (x : Message). bytes_eq x.topic ch.topic) (filter_map said_by (filter_map (at_slot ch.slot) rest)) ≡ filter_map (said_to ch) rest
-      → filter (λ (x : Message). bytes_eq x.topic ch.topic) (filter_map said_by (cons_option (if b then Some (a.Says m) else None) (filter_map (at_slot ch.slot) rest)))
+      → filter (λ (x : Message). bytes_eq x.topic ch.topic) (filter_map said_by
+      (cons_option (if b then Some (a.Says m) else None) (filter_map (at_slot ch.slot) rest)))
       ≡ cons_option (elim (b && bytes_eq m.topic ch.topic) as (λ t. Option Message) [ true ↦ Some m | false ↦ None ]) (filter_map (said_to ch) rest)
   on_case ch m true rest true e h =
       let all = filter (λ (x : Message). bytes_eq x.topic ch.topic) (filter_map said_by (filter_map (at_slot ch.slot) rest)) in
@@ -298,9 +322,11 @@ module _ (c : Catalog) (s : Settings) where
   on_topic ch [] = refl
   on_topic ch ((n, a.Says m) ∷ gs) = on_case ch m (n == ch.slot) gs (bytes_eq m.topic ch.topic) refl (on_topic ch gs)
   on_topic ch ((n, a.Opened v) ∷ gs) =
-      ap (filter (λ (x : Message). bytes_eq x.topic ch.topic)) (off_case (n == ch.slot) (a.Opened v) (filter_map (at_slot ch.slot) gs) refl) ∙ on_topic ch gs
+      ap (filter (λ (x : Message). bytes_eq x.topic ch.topic)) (off_case (n == ch.slot) (a.Opened v) (filter_map (at_slot ch.slot) gs) refl)
+      ∙ on_topic ch gs
   on_topic ch ((n, a.Ended name) ∷ gs) =
-      ap (filter (λ (x : Message). bytes_eq x.topic ch.topic)) (off_case (n == ch.slot) (a.Ended name) (filter_map (at_slot ch.slot) gs) refl) ∙ on_topic ch gs
+      ap (filter (λ (x : Message). bytes_eq x.topic ch.topic)) (off_case (n == ch.slot) (a.Ended name) (filter_map (at_slot ch.slot) gs) refl)
+      ∙ on_topic ch gs
 
   on_input : (ch : Channel) (journal : List Input) (i : Input)
       → filter (λ (x : Message). bytes_eq x.topic ch.topic) (filter_map said_by (told ch.slot (answers c s journal i))) ≡ heard c s journal i ch
@@ -309,7 +335,8 @@ module _ (c : Catalog) (s : Settings) where
 
   since_case : (ch : Channel) (i : Input) (before : List Input) (b : Bool)
       → filter (λ (x : Message). bytes_eq x.topic ch.topic) (said_since c s ch before) ≡ told_since c s ch before
-      → filter (λ (x : Message). bytes_eq x.topic ch.topic) (elim b as (λ k. List Message) [ true ↦ said_since c s ch before ++ filter_map said_by (told ch.slot (answers c s before i)) | false ↦ [] ])
+      → filter (λ (x : Message). bytes_eq x.topic ch.topic) (elim b as
+      (λ k. List Message) [ true ↦ said_since c s ch before ++ filter_map said_by (told ch.slot (answers c s before i)) | false ↦ [] ])
       ≡ elim b as (λ k. List Message) [ true ↦ told_since c s ch before ++ heard c s before i ch | false ↦ [] ]
   since_case ch i before true e =
       let on : Message → Bool = λ x. bytes_eq x.topic ch.topic in

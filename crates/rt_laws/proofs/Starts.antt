@@ -123,12 +123,14 @@ module _ (now : Now) where
     all_departs : departed_in all ≡ gone
     all_departs =
         filter_map-append departed_by (closing o) (quiet ++ state) ∙ ap (λ (ds : List ℕ). ds ++ departed_in (quiet ++ state)) (closing_departs o)
-        ∙ ap (λ (ds : List ℕ). gone ++ ds) (filter_map-append departed_by quiet state ∙ ap (λ (ds : List ℕ). ds ++ departed_in state) (mute_departs quiet mute_quiet) ∙ tell_departs ch.presence ch.slot said)
+        ∙ ap (λ (ds : List ℕ). gone ++ ds) (filter_map-append departed_by quiet state
+        ∙ ap (λ (ds : List ℕ). ds ++ departed_in state) (mute_departs quiet mute_quiet) ∙ tell_departs ch.presence ch.slot said)
         ∙ append-nil gone
 
     all_tracks : tracks_in all ≡ []
     all_tracks =
-        flat_map-append tracked_by (closing o) (quiet ++ state) ∙ ap (λ (xs : List (ℕ × Option Track)). xs ++ tracks_in (quiet ++ state)) (closing_tracks o)
+        flat_map-append tracked_by (closing o) (quiet ++ state)
+        ∙ ap (λ (xs : List (ℕ × Option Track)). xs ++ tracks_in (quiet ++ state)) (closing_tracks o)
         ∙ flat_map-append tracked_by quiet state ∙ ap (λ (xs : List (ℕ × Option Track)). xs ++ tracks_in state) (mute_tracks quiet mute_quiet)
         ∙ tell_tracks ch.presence ch.slot said
 
@@ -182,7 +184,8 @@ module _ (now : Now) where
   keeping_result : (slot : ℕ) (o : Option Member) (m : Message) (r : Checked Channel) → IsMade now.number slot m.topic r → IsOpen now slot
       → Keeping (closing o ++ join_result_parts now slot (map (λ (g : Member). g.channel.number) (option_to_list o)) m r)
   keeping_result slot o m (Err why) made held_open =
-      keeping_still (closing o ++ tell slot (reply_error m.join_ref m why)) (all_append Still (closing o) (tell slot (reply_error m.join_ref m why)) (still_closing now (option_to_list o)) (tt, tt))
+      keeping_still (closing o ++ tell slot (reply_error m.join_ref m why))
+      (all_append Still (closing o) (tell slot (reply_error m.join_ref m why)) (still_closing now (option_to_list o)) (tt, tt))
   keeping_result slot o m (Ok ch) made held_open =
       let gone = map (λ (g : Member). g.channel.number) (option_to_list o) in
       let front = closing o in
@@ -190,15 +193,20 @@ module _ (now : Now) where
       let state = tell_if ch.presence ch.slot (presence_state ch (present_on now gone ch.topic)) in
       let back = tell ch.slot (reply_ok ch.join_ref m (joined_response ch)) ++ (subscribed ++ state) in
       let all = front ++ Joins ch ∷ back in
-      let still_back : AllOf Still back =
-      (tt, all_append Still subscribed state (still_tell_if (has_bindings ch) ch.slot (subscribed_message ch)) (still_tell_if ch.presence ch.slot (presence_state ch (present_on now gone ch.topic)))) in
+      let still_back : AllOf Still back = (
+        tt,
+        all_append Still subscribed state (still_tell_if (has_bindings ch) ch.slot (subscribed_message ch))
+            (still_tell_if ch.presence ch.slot (presence_state ch (present_on now gone ch.topic))),
+      ) in
       let still_front = still_closing now (option_to_list o) in
-      let ends : (k : ℕ) → AllOf (Spares k) all = λ k. all_append (Spares k) front (Joins ch ∷ back) (still_on k front still_front) (tt, still_on k back still_back) in
+      let ends : (k : ℕ) → AllOf (Spares k) all = λ k. all_append (Spares k) front (Joins ch ∷ back) (still_on k front still_front)
+      (tt, still_on k back still_back) in
       let joins : joins_of all ≡ ch ∷ [] =
       filter_map-append joined_by front (Joins ch ∷ back) ∙ ap (λ (js : List Channel). js ++ (ch ∷ joins_of back)) (still_joins front still_front)
       ∙ ap (λ (js : List Channel). ch ∷ js) (still_joins back still_back) in
       let P : Channel → Type 0 = λ x. IsOpen now x.slot × AllOf (Spares x.slot) all in
-      let Q : Channel → Type 0 = λ x. x.presence ≡ true → (held : List Held) → Moves (client_view held (hears x all)) (map shown_meta (filter (on x) (tracks_after now.tracks all))) in
+      let Q : Channel → Type 0 = λ x. x.presence ≡ true → (held : List Held)
+      → Moves (client_view held (hears x all)) (map shown_meta (filter (on x) (tracks_after now.tracks all))) in
       let one : (x : Channel) → Among (joins_of all) x → ch ≡ x = λ x i.
       let R : List Channel → Type 0 = λ js. Among js x in elim (subst R joins i) [ inl e ↦ e | inr j ↦ absurd j ] in
       let here : IsOpen now ch.slot = (held_open.0, ap (opening_in now) made.1 ∙ held_open.1) in
@@ -218,7 +226,8 @@ module _ (now : Now) where
   still_renewal g (Ok standing) = (tt, tt)
   still_renewal g (Err why) = still_fail now why [] g
 
-  module _ (below : AllOf (Below now.number) now.members) (apart : AreApart now.members) (open_slots : (h : Member) → Among now.members h → IsOpen now h.channel.slot)
+  module _ (below : AllOf (Below now.number) now.members) (apart : AreApart now.members)
+      (open_slots : (h : Member) → Among now.members h → IsOpen now h.channel.slot)
       (c : Catalog) (s : Settings) where
     still_ask : (o : Opening) (g : Member) (m : Message) (k : Ask) → AllOf Still (ask_parts c s now o g m k)
     still_ask o g m leave = (tt, still_close now [] g)
@@ -243,8 +252,10 @@ module _ (now : Now) where
     keeping_join : (slot : ℕ) (o : Opening) (m : Message) → IsOpen now slot → Keeping (join_parts c s now slot o m)
     keeping_join slot o m held_open =
         let former = channel_on now slot m.topic in
-        by_case (is_channel_topic m.topic) (join_over_former c s now slot o m (option_to_list former)) (tell slot (reply_error m.join_ref m (codes "unmatched topic")))
-        (keeping_result slot former m (channel_of_join c s now slot o (others now slot m.topic) m) (join_made now below apart c s slot o (others now slot m.topic) m) held_open)
+        by_case (is_channel_topic m.topic) (join_over_former c s now slot o m (option_to_list former))
+        (tell slot (reply_error m.join_ref m (codes "unmatched topic")))
+        (keeping_result slot former m (channel_of_join c s now slot o (others now slot m.topic) m)
+        (join_made now below apart c s slot o (others now slot m.topic) m) held_open)
         (keeping_still (tell slot (reply_error m.join_ref m (codes "unmatched topic"))) (tt, tt))
 
     keeping_message : (slot : ℕ) (o : Opening) (m : Option Message) → IsOpen now slot → Keeping (message_parts c s now slot o m)
@@ -252,9 +263,11 @@ module _ (now : Now) where
         keeping_without (end_of now [] slot end_name.BadFrame) (keeps_end now [] slot end_name.BadFrame)
         (plain_joins true now.number (end_of now [] slot end_name.BadFrame) (plain_end now below apart [] slot end_name.BadFrame))
     keeping_message slot o (Some m) held_open =
-        by_test (is_heartbeat m) (tell slot (reply_ok m.join_ref m no_members)) (if is_join m then join_parts c s now slot o m else channel_parts c s now slot o m (channel_on now slot m.topic))
+        by_test (is_heartbeat m) (tell slot (reply_ok m.join_ref m no_members))
+        (if is_join m then join_parts c s now slot o m else channel_parts c s now slot o m (channel_on now slot m.topic))
         (keeping_still (tell slot (reply_ok m.join_ref m no_members)) (tt, tt))
-        (by_test (is_join m) (join_parts c s now slot o m) (channel_parts c s now slot o m (channel_on now slot m.topic)) (keeping_join slot o m held_open) (keeping_channel slot o m (channel_on now slot m.topic)))
+        (by_test (is_join m) (join_parts c s now slot o m) (channel_parts c s now slot o m (channel_on now slot m.topic))
+        (keeping_join slot o m held_open) (keeping_channel slot o m (channel_on now slot m.topic)))
 
     keeping_frame : (slot : ℕ) (bytes : List ℕ) (o : Option Opening) → opening_in now slot ≡ o → Keeping (frame_parts c s now slot bytes o)
     keeping_frame slot bytes None e = keeping_still [] tt
@@ -276,20 +289,25 @@ module _ (now : Now) where
     unfolding doings poll_parts
     keeping tables (Opened slot version claims) =
         let o = opening_of now version claims in
-        keeping_without (open_parts now slot o) (keeps_open now open_slots slot o) (plain_joins true now.number (open_parts now slot o) (plain_open now below apart slot o))
+        keeping_without (open_parts now slot o) (keeps_open now open_slots slot o)
+        (plain_joins true now.number (open_parts now slot o) (plain_open now below apart slot o))
     keeping tables (Frame slot bytes) = keeping_frame slot bytes (opening_in now slot) refl
     keeping tables (Gone slot) =
         let ended = end_if_open now slot end_name.Gone (opening_in now slot) in
-        keeping_without ended (keeps_end_if now slot end_name.Gone (opening_in now slot)) (plain_joins true now.number ended (plain_end_if now below apart slot end_name.Gone (opening_in now slot)))
+        keeping_without ended (keeps_end_if now slot end_name.Gone (opening_in now slot))
+        (plain_joins true now.number ended (plain_end_if now below apart slot end_name.Gone (opening_in now slot)))
     keeping tables (Poll changes) =
         let subs = subscriptions now.members in
         let views = map view_of now.members in
-        keeping_still (flat_map (change_parts_to_all c s subs tables views) changes) (all_flat Still (change_parts_to_all c s subs tables views) changes (still_changes subs tables views))
+        keeping_still (flat_map (change_parts_to_all c s subs tables views) changes)
+        (all_flat Still (change_parts_to_all c s subs tables views) changes (still_changes subs tables views))
     keeping tables (Tick m) =
         let xs = enumerate_from 0 now.opens in
-        keeping_without (in_turn (tick_parts now m) [] xs) (keeps_ticks now m xs) (plain_joins true now.number (in_turn (tick_parts now m) [] xs) (plain_ticks now below apart m xs))
+        keeping_without (in_turn (tick_parts now m) [] xs) (keeps_ticks now m xs)
+        (plain_joins true now.number (in_turn (tick_parts now m) [] xs) (plain_ticks now below apart m xs))
     keeping tables Stop =
         let xs = enumerate_from 0 now.opens in
         let all = flat_map (stop_parts now) xs in
-        keeping_without all (λ h here stays. absurd (let z : true ≡ false = sym (ap (has h.channel.number) (append-nil (departed_in all)) ∙ stop_has now open_slots h here) ∙ stays in cc))
+        keeping_without all (λ h here stays. absurd (let z : true ≡ false = sym
+        (ap (has h.channel.number) (append-nil (departed_in all)) ∙ stop_has now open_slots h here) ∙ stays in cc))
         (plain_joins true now.number all (all_flat (Plain true now.number) (stop_parts now) xs (λ x. plain_stop now below apart x)))

@@ -135,18 +135,26 @@ tracked_more l before h g =
           let made = among_map (member_in before) (members_at before) own.member own.here in
           let ref = own.reference in
           let fresh : Info (l ∷ before) t =
-          info_new l before h t made.0 made.1 (ap (λ (m : Member). m.channel.number) made.2 ∙ own.number) (ap (λ (m : Member). m.channel.topic) made.2 ∙ own.topic) own.reference in
+          info_new l before h t made.0 made.1 (ap (λ (m : Member). m.channel.number) made.2 ∙ own.number)
+          (ap (λ (m : Member). m.channel.topic) made.2 ∙ own.topic) own.reference in
           subst Q (sym r.1) (record {
             info = all_append (Info (l ∷ before)) kept (t ∷ []) infos (fresh, tt);
-            channels = apart_append (λ (u : Track). u.channel) kept (t ∷ []) chans (apart_one (λ (u : Track). u.channel) t) (λ x y a b e. cross_channel l x y t old r.1 a b e);
-            references = apart_append (λ (u : Track). u.reference) kept (t ∷ []) refs (apart_one (λ (u : Track). u.reference) t) (λ x y a b e. cross_reference before x y t old last g.info own.reference a b e);
+            channels = apart_append (λ (u : Track). u.channel) kept (t ∷ []) chans (apart_one (λ (u : Track). u.channel) t)
+                (λ x y a b e. cross_channel l x y t old r.1 a b e);
+            references = apart_append (λ (u : Track). u.reference) kept (t ∷ []) refs (apart_one (λ (u : Track). u.reference) t)
+                (λ x y a b e. cross_reference before x y t old last g.info own.reference a b e);
           })
     ])
 
 tracked : (st : Story) → Shaped st → IsTracked st (standing_tracks (all_tracks st))
 tracked [] h =
     let P : List (ℕ × Option Track) → Type 0 = λ xs. IsTracked [] (standing_tracks xs) in
-    subst P (sym no_tracks) (record { info = tt; channels = apart_none (λ (t : Track). t.channel); references = apart_none (λ (t : Track). t.reference) })
+    subst P (sym no_tracks) (record {
+      info = tt;
+      channels = apart_none (λ (t : Track). t.channel);
+      references = apart_none
+          (λ (t : Track). t.reference);
+    })
 tracked (l ∷ before) h = tracked_more l before h (tracked before h.1)
 
 -- what is present
@@ -165,7 +173,8 @@ is_present st h =
     record {
       channels = apart_filter (λ (t : Track). t.channel) held all g.channels;
       references = apart_filter (λ (t : Track). t.reference) held all g.references;
-      small = all_weaker (Info st) (λ (t : Track). t.reference < length st) (filter held all) (λ t i. i.reference) (all_filter (Info st) held all g.info);
+      small = all_weaker (Info st) (λ (t : Track). t.reference < length st) (filter held all) (λ t i. i.reference)
+          (all_filter (Info st) held all g.info);
       topics = λ t m a b e.
           let i = all_among (Info st) all t g.info (among_filter held all t a).0 in
           let made = among_map (member_in st) (members_at st) m b in

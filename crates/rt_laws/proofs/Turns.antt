@@ -176,8 +176,10 @@ tests_off true false true f = f refl
 tests_off true false false f = refl
 tests_off false b o f = refl
 
-module _ (now : Now) (h : Member) (in_members : Among now.members h) (rises : RisingMembers now.members) (apart : AreApart now.members) (enabled : h.channel.presence ≡ true)
-    (chans : Apart (λ (t : Track). t.channel) now.tracks) (refs : Apart (λ (t : Track). t.reference) now.tracks) (small : AllOf (λ (t : Track). t.reference < 2 ^ 64) now.tracks) where
+module _ (now : Now) (h : Member) (in_members : Among now.members h) (rises : RisingMembers now.members) (apart : AreApart now.members)
+    (enabled : h.channel.presence ≡ true)
+    (chans : Apart (λ (t : Track). t.channel) now.tracks) (refs : Apart (λ (t : Track). t.reference) now.tracks)
+    (small : AllOf (λ (t : Track). t.reference < 2 ^ 64) now.tracks) where
   abbrev on : Track → Bool
   on t = bytes_eq t.topic h.channel.topic
 
@@ -220,10 +222,13 @@ module _ (now : Now) (h : Member) (in_members : Among now.members h) (rises : Ri
             let is : all ≡ client_view mid (hears h.channel qs) =
             ap (client_view held) (hears_append h.channel ps qs) ∙ view_append held (hears h.channel ps) (hears h.channel qs) in
             let last : shown_still (dq ++ (dp ++ gone)) ≡ shown_still (departed_in (ps ++ qs) ++ gone) =
-            ap (map shown_meta) (still_same (dq ++ (dp ++ gone)) (departed_in (ps ++ qs) ++ gone) (λ j. sym (ap (λ (xs : List ℕ). has j (xs ++ gone)) ds ∙ has_turn j dp dq gone))) in
-            then_to all (client_view mid (hears h.channel qs)) (shown_still (departed_in (ps ++ qs) ++ gone)) (moves_same all (client_view mid (hears h.channel qs)) is)
+            ap (map shown_meta) (still_same (dq ++ (dp ++ gone)) (departed_in (ps ++ qs) ++ gone)
+            (λ j. sym (ap (λ (xs : List ℕ). has j (xs ++ gone)) ds ∙ has_turn j dp dq gone))) in
+            then_to all (client_view mid (hears h.channel qs)) (shown_still (departed_in (ps ++ qs) ++ gone))
+            (moves_same all (client_view mid (hears h.channel qs)) is)
             (then_to (client_view mid (hears h.channel qs)) (shown_still (dq ++ (dp ++ gone))) (shown_still (departed_in (ps ++ qs) ++ gone))
-            (b.holds mid stays_on (a.holds held before m)) (moves_same (shown_still (dq ++ (dp ++ gone))) (shown_still (departed_in (ps ++ qs) ++ gone)) last));
+            (b.holds mid stays_on (a.holds held before m)) (moves_same (shown_still (dq ++ (dp ++ gone)))
+            (shown_still (departed_in (ps ++ qs) ++ gone)) last));
       }
 
   pub turns_mute : (ps : List Part) (gone : List ℕ) → AllOf IsMute ps → Turns ps gone
@@ -262,17 +267,20 @@ module _ (now : Now) (h : Member) (in_members : Among now.members h) (rises : Ri
   leave_on gone n t held a e m =
       let fits : t.reference < 2 ^ 64 = all_among (λ (u : Track). u.reference < 2 ^ 64) now.tracks t small a in
       let few : AllOf (λ (u : Track). u.reference < 2 ^ 64) (still gone) =
-      all_filter (λ (u : Track). u.reference < 2 ^ 64) on (filter (left gone) now.tracks) (all_filter (λ (u : Track). u.reference < 2 ^ 64) (left gone) now.tracks small) in
+      all_filter (λ (u : Track). u.reference < 2 ^ 64) on (filter (left gone) now.tracks)
+      (all_filter (λ (u : Track). u.reference < 2 ^ 64) (left gone) now.tracks small) in
       let q : Track → Bool = λ u. not (leaves_in (t ∷ []) u) in
       let done = after_message held (presence_diff h.channel [] (t ∷ [])) in
       let same : filter q (still gone ++ []) ≡ still (n ∷ gone) =
       ap (filter q) (append-nil (still gone) ∙ still_is gone) ∙ sym (filter_and q (λ u. left gone u && on u) now.tracks)
       ∙ filter_alike (λ u. (left gone u && on u) && q u) (λ u. left (n ∷ gone) u && on u) now.tracks
       (all_weaker (Among now.tracks) (λ (u : Track). ((left gone u && on u) && q u) ≡ (left (n ∷ gone) u && on u)) now.tracks
-      (λ u b. ap (λ (k : Bool). (left gone u && on u) && not (k || false)) (of_one n t u a b e) ∙ tests_on (n == u.channel) (has u.channel gone) (on u)) (all_themselves now.tracks))
+      (λ u b. ap (λ (k : Bool). (left gone u && on u) && not (k || false)) (of_one n t u a b e)
+      ∙ tests_on (n == u.channel) (has u.channel gone) (on u)) (all_themselves now.tracks))
       ∙ sym (still_is (n ∷ gone)) in
       then_to done (map shown_meta (filter q (still gone ++ []))) (shown_still (n ∷ gone))
-      (reads_difference h.channel held (still gone) [] (t ∷ []) (fits, tt) (all_append (λ (u : Track). u.reference < 2 ^ 64) (still gone) [] few tt) m)
+      (reads_difference h.channel held (still gone) [] (t ∷ []) (fits, tt)
+      (all_append (λ (u : Track). u.reference < 2 ^ 64) (still gone) [] few tt) m)
       (moves_same (map shown_meta (filter q (still gone ++ []))) (shown_still (n ∷ gone)) (ap (map shown_meta) same))
 
   leave_off : (gone : List ℕ) (n : ℕ) (t : Track) → Among now.tracks t → t.channel ≡ n → on t ≡ false → shown_still gone ≡ shown_still (n ∷ gone)
@@ -280,19 +288,22 @@ module _ (now : Now) (h : Member) (in_members : Among now.members h) (rises : Ri
       ap (map shown_meta) (still_is gone
       ∙ filter_alike (λ u. left gone u && on u) (λ u. left (n ∷ gone) u && on u) now.tracks
       (all_weaker (Among now.tracks) (λ (u : Track). (left gone u && on u) ≡ (left (n ∷ gone) u && on u)) now.tracks
-      (λ u b. tests_off (n == u.channel) (has u.channel gone) (on u) (λ k. ap on (sym (chans t u a b (e ∙ same_number n u.channel k))) ∙ off)) (all_themselves now.tracks))
+      (λ u b. tests_off (n == u.channel) (has u.channel gone) (on u) (λ k. ap on (sym (chans t u a b (e ∙ same_number n u.channel k))) ∙ off))
+      (all_themselves now.tracks))
       ∙ sym (still_is (n ∷ gone)))
 
   pub on_turn : (t : Track) (b : Bool) → bytes_eq h.channel.topic t.topic ≡ b → on t ≡ b
   on_turn t true e = (bytes_eq-Decides t.topic h.channel.topic).1 (sym ((bytes_eq-Decides h.channel.topic t.topic).0 e))
   on_turn t false e = off_of (on t) refl where
     off_of : (x : Bool) → on t ≡ x → on t ≡ false
-    off_of true f = absurd (let k : true ≡ false = sym ((bytes_eq-Decides h.channel.topic t.topic).1 (sym ((bytes_eq-Decides t.topic h.channel.topic).0 f))) ∙ e in cc)
+    off_of true f = absurd (let k : true ≡ false = sym ((bytes_eq-Decides h.channel.topic t.topic).1
+        (sym ((bytes_eq-Decides t.topic h.channel.topic).0 f))) ∙ e in cc)
     off_of false f = f
 
   leave_case : (gone : List ℕ) (n : ℕ) (t : Track) (held : List Held) (b : Bool) → bytes_eq h.channel.topic t.topic ≡ b → Among now.tracks t
       → t.channel ≡ n → Moves held (shown_still gone)
-      → Moves (client_view held (elim b as (λ x. List Message) [ true ↦ presence_diff h.channel [] (t ∷ []) ∷ [] | false ↦ [] ])) (shown_still (n ∷ gone))
+      → Moves (client_view held (elim b as (λ x. List Message) [ true ↦ presence_diff h.channel [] (t ∷ []) ∷ [] | false ↦ [] ]))
+      (shown_still (n ∷ gone))
   leave_case gone n t held true k a e m = leave_on gone n t held a e m
   leave_case gone n t held false k a e m = let P : List Held → Type 0 = Moves held in subst P (leave_off gone n t a e (on_turn t false k)) m
 
@@ -319,14 +330,17 @@ module _ (now : Now) (h : Member) (in_members : Among now.members h) (rises : Ri
 
   pub turns_close : (gone : List ℕ) (g : Member) → Turns (close now gone g) gone
   turns_close gone g =
-      turns_then (Tells g.channel.slot (close_message g.channel) ∷ []) (depart now gone g) gone (turns_mute (Tells g.channel.slot (close_message g.channel) ∷ []) gone ((refl, refl), tt)) (turns_depart gone g)
+      turns_then (Tells g.channel.slot (close_message g.channel) ∷ []) (depart now gone g) gone
+      (turns_mute (Tells g.channel.slot (close_message g.channel) ∷ []) gone ((refl, refl), tt)) (turns_depart gone g)
 
   pub turns_fail : (reason gone : List ℕ) (g : Member) → Turns (fail now reason gone g) gone
   turns_fail reason gone g =
-      turns_then (Tells g.channel.slot (failed_message g.channel reason) ∷ []) (close now gone g) gone (turns_mute (Tells g.channel.slot (failed_message g.channel reason) ∷ []) gone ((refl, refl), tt)) (turns_close gone g)
+      turns_then (Tells g.channel.slot (failed_message g.channel reason) ∷ []) (close now gone g) gone
+      (turns_mute (Tells g.channel.slot (failed_message g.channel reason) ∷ []) gone ((refl, refl), tt)) (turns_close gone g)
 
   pub turns_end : (gone : List ℕ) (slot : ℕ) (name : EndName) → Turns (end_of now gone slot name) gone
   turns_end gone slot name =
       let ds = in_turn (depart now) gone (channels_of now slot) in
-      turns_then ds (Ends slot name ∷ []) gone (turns_each (depart now) (λ g. ⊤) (λ x g t. turns_depart x g) gone (channels_of now slot) (all_every (λ g. ⊤) (channels_of now slot) (λ g. tt)))
+      turns_then ds (Ends slot name ∷ []) gone (turns_each (depart now) (λ g. ⊤) (λ x g t. turns_depart x g) gone (channels_of now slot)
+      (all_every (λ g. ⊤) (channels_of now slot) (λ g. tt)))
       (turns_mute (Ends slot name ∷ []) (departed_in ds ++ gone) (tt, tt))

@@ -29,8 +29,11 @@ rising_filter p (ch ∷ chs) r =
 
 rising_map : (st : Story) (chs : List Channel) → Rising chs → RisingMembers (map (member_in st) chs)
 rising_map st [] r = tt
-rising_map st (ch ∷ chs) r =
-    (all_map_of (λ (g : Member). ch.number < g.channel.number) (λ (d : Channel). ch.number < d.number) (member_in st) chs (λ d lt. lt) r.0, rising_map st chs r.1)
+rising_map st (ch ∷ chs) r = (
+  all_map_of (λ (g : Member). ch.number < g.channel.number) (λ (d : Channel). ch.number < d.number) (member_in st) chs
+      (λ d lt. lt) r.0,
+  rising_map st chs r.1,
+)
 
 rising_append : (n : ℕ) (xs js : List Channel) → Rising xs → AllOf (IsBelow n) xs → ((length js ≡ 0) ⊎ (length js ≡ 1))
     → AllOf (λ (ch : Channel). ch.number ≡ n) js → Rising (xs ++ js)
@@ -39,8 +42,12 @@ rising_append n [] (j ∷ []) r b one e = (tt, tt)
 rising_append n [] (j ∷ k ∷ more) r b (inl one) e = absurd (omega arith)
 rising_append n [] (j ∷ k ∷ more) r b (inr one) e = absurd (omega arith)
 rising_append n (x ∷ xs) js r b one e =
-    let lt = b.0 in
-    (all_append (λ (d : Channel). x.number < d.number) xs js r.0 (all_weaker (λ (d : Channel). d.number ≡ n) (λ (d : Channel). x.number < d.number) js (λ d k. omega arith) e), rising_append n xs js r.1 b.1 one e)
+    let lt = b.0 in (
+      all_append (λ (d : Channel). x.number < d.number) xs js r.0
+          (all_weaker (λ (d : Channel). d.number ≡ n) (λ (d : Channel). x.number < d.number) js
+          (λ d k. omega arith) e),
+      rising_append n xs js r.1 b.1 one e,
+    )
 
 none_joined : joined [] ≡ []
 unfolding joined
@@ -50,7 +57,8 @@ pub joined_rising : (st : Story) → Shaped st → Rising (joined st)
 joined_rising [] h = let P : List Channel → Type 0 = Rising in subst P (sym none_joined) tt
 joined_rising (l ∷ before) h =
     let w = joins_well l before h in
-    subst Rising (sym (joined_grows l before w.one)) (rising_append (length before) (joined before) (joins_of l.parts) (joined_rising before h.1) (joined_below before h.1) w.one w.numbers)
+    subst Rising (sym (joined_grows l before w.one)) (rising_append (length before) (joined before) (joins_of l.parts) (joined_rising before h.1)
+    (joined_below before h.1) w.one w.numbers)
 
 pub members_rising : (st : Story) → Shaped st → RisingMembers (members_in st)
 unfolding members_at

@@ -58,11 +58,19 @@ le_from n m h = grind (arith, nat_tests)
 
 module _ (c : Catalog) (s : Settings) where
   taken_kept : (w rest : World) (i : Input) (slot : ℕ) → IsUntouched w rest slot
-      → Keeps w slot (elim (nat_le s.inputs (length w.journal)) [ true ↦ (spent, w) | false ↦ elim (nat_lt s.rows (rows_left c s w.journal i)) [ true ↦ (rows_full, w) | false ↦ (done, record rest { journal = i ∷ w.journal }) ] ])
+      → Keeps w slot (elim (nat_le s.inputs (length w.journal)) [
+        | true ↦ (spent, w)
+        | false ↦ elim (nat_lt s.rows (rows_left c s w.journal i))
+            [ true ↦ (rows_full, w) | false ↦ (done, record rest { journal = i ∷ w.journal }) ]
+      ])
   taken_kept w rest i slot h =
-      let next : IsUntouched w (record rest { journal = i ∷ w.journal }) slot = record { given = h.given; past = h.past; popped = h.popped; cuts = h.cuts } in
-      by_case w slot (nat_le s.inputs (length w.journal)) (spent, w) (elim (nat_lt s.rows (rows_left c s w.journal i)) [ true ↦ (rows_full, w) | false ↦ (done, record rest { journal = i ∷ w.journal }) ]) (nothing w slot)
-      (by_case w slot (nat_lt s.rows (rows_left c s w.journal i)) (rows_full, w) (done, record rest { journal = i ∷ w.journal }) (nothing w slot) next)
+      let next : IsUntouched w (record rest { journal = i ∷ w.journal }) slot =
+      record { given = h.given; past = h.past; popped = h.popped; cuts = h.cuts } in
+      by_case w slot (nat_le s.inputs (length w.journal)) (spent, w)
+      (elim (nat_lt s.rows (rows_left c s w.journal i)) [ true ↦ (rows_full, w) | false ↦ (done, record rest { journal = i ∷ w.journal }) ])
+      (nothing w slot)
+      (by_case w slot (nat_lt s.rows (rows_left c s w.journal i)) (rows_full, w) (done, record rest { journal = i ∷ w.journal })
+      (nothing w slot) next)
 
   first_kept : (w : World) (inputs : List Input) (put : List Input → World → World) (slot : ℕ) → ((is : List Input) → IsUntouched w (put is w) slot)
       → Keeps w slot (take_first c s w inputs put)
@@ -80,7 +88,13 @@ module _ (c : Catalog) (s : Settings) where
 
   -- worlds with the same slots
   same_slots : (w v : World) (slot : ℕ) → v.slots slot ≡ w.slots slot → IsUntouched w v slot
-  same_slots w v slot e = record { given = ap (λ (x : Slot). x.given) e; past = ap (λ (x : Slot). x.past) e; popped = ap (λ (x : Slot). x.popped) e; cuts = ap (λ (x : Slot). x.cuts) e }
+  same_slots w v slot e = record {
+    given = ap (λ (x : Slot). x.given) e;
+    past = ap (λ (x : Slot). x.past) e;
+    popped = ap
+        (λ (x : Slot). x.popped) e;
+    cuts = ap (λ (x : Slot). x.cuts) e;
+  }
 
   fed_kept : (w : World) (i : Input) (slot : ℕ) → Keeps w slot (feed_with c s w i)
   fed_kept w i slot =
@@ -90,17 +104,21 @@ module _ (c : Catalog) (s : Settings) where
 
   send_kept : (w : World) (l : ℕ) (x : Lane) (slot : ℕ) → Keeps w slot (send c s w l x)
   send_kept w l x slot =
-      by_case w slot (x.sent == length (lane_marks c s w.journal l)) (empty, w) (elim (x.sent - x.worked == s.lane) [ true ↦ (full, w) | false ↦ (done, with_lane w l (record x { sent = x.sent + 1 })) ]) (nothing w slot)
-      (by_case w slot (x.sent - x.worked == s.lane) (full, w) (done, with_lane w l (record x { sent = x.sent + 1 })) (nothing w slot) (same_slots w (with_lane w l (record x { sent = x.sent + 1 })) slot refl))
+      by_case w slot (x.sent == length (lane_marks c s w.journal l)) (empty, w)
+      (elim (x.sent - x.worked == s.lane) [ true ↦ (full, w) | false ↦ (done, with_lane w l (record x { sent = x.sent + 1 })) ]) (nothing w slot)
+      (by_case w slot (x.sent - x.worked == s.lane) (full, w) (done, with_lane w l (record x { sent = x.sent + 1 })) (nothing w slot)
+      (same_slots w (with_lane w l (record x { sent = x.sent + 1 })) slot refl))
 
   work_kept : (w : World) (l : ℕ) (x : Lane) (slot : ℕ) → Keeps w slot (work w l x)
   work_kept w l x slot =
-      by_case w slot (x.worked == x.sent) (empty, w) (done, with_lane w l (record x { worked = x.worked + 1 })) (nothing w slot) (same_slots w (with_lane w l (record x { worked = x.worked + 1 })) slot refl)
+      by_case w slot (x.worked == x.sent) (empty, w) (done, with_lane w l (record x { worked = x.worked + 1 })) (nothing w slot)
+      (same_slots w (with_lane w l (record x { worked = x.worked + 1 })) slot refl)
 
   push_kept : (w : World) (n : ℕ) (ps : List Placed) (slot : ℕ) → (n ≡ slot → ⊥) → Keeps w slot (push c s w n (w.slots n) ps)
   push_kept w n [] slot ne = nothing w slot
   push_kept w n (p ∷ ps) slot ne =
-      by_case w slot (is_full_for c s (w.slots n) p.item) (full, with_slot w n (with_cut (w.slots n) p)) (done, with_slot w n (with_given (w.slots n) p))
+      by_case w slot (is_full_for c s (w.slots n) p.item) (full, with_slot w n (with_cut (w.slots n) p))
+      (done, with_slot w n (with_given (w.slots n) p))
       (other_kept w n (with_cut (w.slots n) p) slot ne) (other_kept w n (with_given (w.slots n) p) slot ne)
 
   pop_kept : (w : World) (n : ℕ) (is : List Item) (slot : ℕ) → (n ≡ slot → ⊥) → Keeps w slot (pop w n (w.slots n) is)
@@ -141,13 +159,18 @@ module _ (c : Catalog) (s : Settings) where
 
   -- a push on the slot itself
   abbrev Cuts : World → ℕ → Outcome × World → Type 0
-  Cuts w n r = ((r.1.slots n).cuts ≡ (w.slots n).cuts) ⊎ ((s.capacity ≤ messages_in (outbox (w.slots n))) × ((k : Cut) × ((r.1.slots n).cuts ≡ (w.slots n).cuts ++ k ∷ [])))
+  Cuts w n r = ((r.1.slots n).cuts ≡ (w.slots n).cuts) ⊎ ((s.capacity ≤ messages_in (outbox (w.slots n))) ×
+      ((k : Cut) × ((r.1.slots n).cuts ≡ (w.slots n).cuts ++ k ∷ [])))
 
   push_case : (w : World) (n : ℕ) (p : Placed) (b : Bool) → is_full_for c s (w.slots n) p.item ≡ b
       → Cuts w n (elim b [ true ↦ (full, with_slot w n (with_cut (w.slots n) p)) | false ↦ (done, with_slot w n (with_given (w.slots n) p)) ])
   push_case w n p true e =
       let k : Cut = record { opening = p.opening; place = p.place } in
-      inr (le_from s.capacity (messages_in (outbox (w.slots n))) (and_right (is_message p.item) (nat_le s.capacity (messages_in (outbox (w.slots n)))) e), (k, ap (λ (x : Slot). x.cuts) (at_itself w.slots n (with_cut (w.slots n) p))))
+      inr (
+        le_from s.capacity (messages_in (outbox (w.slots n)))
+            (and_right (is_message p.item) (nat_le s.capacity (messages_in (outbox (w.slots n)))) e),
+        (k, ap (λ (x : Slot). x.cuts) (at_itself w.slots n (with_cut (w.slots n) p))),
+      )
   push_case w n p false e = inl (ap (λ (x : Slot). x.cuts) (at_itself w.slots n (with_given (w.slots n) p)))
 
   push_cuts : (w : World) (n : ℕ) (ps : List Placed) → Cuts w n (push c s w n (w.slots n) ps)
@@ -188,7 +211,9 @@ module _ (c : Catalog) (s : Settings) where
       → ((push c s w n (w.slots n) ps).1.journal ≡ w.journal) × ((l : ℕ) → (push c s w n (w.slots n) ps).1.lanes l ≡ w.lanes l)
   push_rest w n [] = (refl, λ l. refl)
   push_rest w n (p ∷ ps) =
-      elim (is_full_for c s (w.slots n) p.item) as (λ b. let r : Outcome × World = elim b [ true ↦ (full, with_slot w n (with_cut (w.slots n) p)) | false ↦ (done, with_slot w n (with_given (w.slots n) p)) ] in (r.1.journal ≡ w.journal) × ((l : ℕ) → r.1.lanes l ≡ w.lanes l)) [
+      elim (is_full_for c s (w.slots n) p.item) as (λ b. let r : Outcome
+      × World = elim b [ true ↦ (full, with_slot w n (with_cut (w.slots n) p)) | false ↦ (done, with_slot w n (with_given (w.slots n) p)) ] in
+      (r.1.journal ≡ w.journal) × ((l : ℕ) → r.1.lanes l ≡ w.lanes l)) [
         | true ↦ (refl, λ l. refl)
         | false ↦ (refl, λ l. refl)
       ]

@@ -5,5 +5,6 @@ pub mod Fan
 pub mod Follows
 pub mod Members
 pub mod Served
+pub mod Told
 pub mod Tracks
 pub mod Views

@@ -5,6 +5,7 @@ ghost use Rattle.rt_entry.specs.declared.input.Input.{Input as InputData};
 ghost use Rattle.rt_entry.specs.Presence.{ClientsAgree, GivenClientsAgree};
 ghost use Rattle.rt_laws.specs.Departures.{DeparturesAreTold};
 ghost use Rattle.rt_laws.specs.Follows.{ClientsFollow};
+ghost use Rattle.rt_laws.specs.Told.{AnswersAreReadable};
 ghost use Rattle.rt_laws.specs.Views.{StatesAreRead};
 
 /// A client that is told a presence state and then differences holds, up to order, the metas of the state's tracks with each difference's joins added
@@ -30,8 +31,15 @@ pub fn clients_agree()
     ensures { (c : CatalogData) (s : SettingsData) (journal : List InputData) → ClientsAgree c s journal }
 {}
 
-/// The same of what a slot was given after any list of steps: where that is, of the slot's opening, exactly what is due by the inputs so far, its client
-/// holds what is present on the topic of each member with presence enabled, by whatever reader takes what the slot was told since the join.
+/// Where the catalogue's names are UTF-8 and a journal's inputs may be taken, every message that they answer can be read: its texts are UTF-8, its
+/// numbers are numbers of the grammar, and its payload nests in at most 66 levels.
+pub fn answers_are_readable()
+    ensures { (c : CatalogData) (s : SettingsData) → AnswersAreReadable c s }
+{}
+
+/// The same of what a slot was given after any list of steps that meets the caller's conditions, where the catalogue's names are UTF-8: where that is, of
+/// the slot's opening, exactly what is due by the inputs so far, its client holds what is present on the topic of each member with presence enabled, by
+/// whatever reader of its own goes 67 levels deep.
 pub fn given_clients_agree()
     ensures { (c : CatalogData) (s : SettingsData) → GivenClientsAgree c s }
 {}

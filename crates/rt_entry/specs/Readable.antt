@@ -1,0 +1,35 @@
+-- What a client can read: a message whose texts are UTF-8, whose numbers are numbers of the grammar, and whose payload nests only so deep.
+use Rattle.std.specs.Prelude.{ℕ, IsUtf8}
+use Rattle.std.specs.List.{AllByRecursion}
+use Rattle.rt_json.specs.Fits.{FitsWithin}
+use Rattle.rt_phx.specs.declared.message.Message.{Message}
+use Rattle.rt_phx.specs.Fits.{IsRef}
+use Rattle.rt_catalog.specs.declared.catalog.Catalog.{Catalog}
+use Rattle.rt_catalog.specs.declared.catalog.Column.{Column}
+use Rattle.rt_catalog.specs.declared.catalog.Table.{Table}
+
+pub record IsReadable (levels : ℕ) (m : Message) : Type 0 where
+  pub join_ref : IsRef m.join_ref
+  pub reference : IsRef m.reference
+  pub topic : IsUtf8 m.topic
+  pub event : IsUtf8 m.event
+  pub payload : FitsWithin levels m.payload
+
+-- How deep a payload of the server nests. A frame nests in 64 levels, so its payload in 63 and the object that it tracks in 62. The members of that object
+-- stand in a meta (62), which stands in a list (63) under `metas` (64) under its key (65) among the joins or the leaves of a difference (66). No other
+-- payload nests deeper: a value of a line's record nests in 61 levels, so the record in 62, the change in 63, and its message's payload in 64.
+abbrev pub payload_levels : ℕ
+payload_levels = 66
+
+-- The names of a catalogue are UTF-8: the code holds them as texts.
+pub record IsReadableColumn (col : Column) : Type 0 where
+  pub name : IsUtf8 col.name
+  pub shown : IsUtf8 col.shown
+
+pub record IsReadableTable (t : Table) : Type 0 where
+  pub schema : IsUtf8 t.schema
+  pub name : IsUtf8 t.name
+  pub columns : AllByRecursion IsReadableColumn t.columns
+
+abbrev pub HasReadableNames : Catalog → Type 0
+HasReadableNames c = AllByRecursion IsReadableTable c.tables

@@ -1,0 +1,268 @@
+-- Each message that the server builds is readable.
+use Rattle.std.proofs.Common.{◌≡◌, ℕ, suc, ◌+◌, ◌<◌, ◌≤◌, Bool, true, false, not, cond, List, [], ◌∷◌, ◌++◌, map, length, Option, Some, None, refl, arith}
+use Rattle.std.specs.Prelude.{◌^◌, IsUtf8, codes}
+use Rattle.std.specs.Fmt.{decimal}
+use Rattle.std.specs.List.{filter, enumerate_from, list_all, AllByRecursion}
+use Rattle.std.specs.Str.{bytes_eq}
+use Rattle.std.specs.Ordering.{nat_cmp}
+use Rattle.std.specs.declared.cmp.Ordering.{Ordering}
+use Rattle.std.specs.declared.cmp.Ordering.TheVariants.{Less, Equal, Greater}
+use Rattle.std.specs.Cmp.Lexicographic.{slice_cmp}
+use Rattle.rt_value.specs.Ordered.{inserted_by, inserted, in_order}
+use Rattle.rt_json.specs.declared.tree.Json.{Json, Text}
+use Rattle.rt_json.specs.declared.tree.Json.TheVariants as j
+use Rattle.rt_json.specs.declared.tree.named.Member.{Member}
+use Rattle.rt_json.specs.Fits.{FitsWithin}
+use Rattle.rt_json.specs.Lookup.{members_of}
+use Rattle.rt_json.specs.Trees.{field}
+use Rattle.rt_phx.specs.declared.message.Message.{Message}
+use Rattle.rt_phx.specs.Fits.{IsRef}
+use Rattle.rt_phx.specs.Frame.{no_members}
+use Rattle.rt_phx.specs.Says.{reply_payload, reply_ok, reason_of, reply_error, system_payload, number_tree}
+use Rattle.rt_registry.specs.declared.binding.Binding.{Binding}
+use Rattle.rt_registry.specs.declared.binding.Subscribed.{Subscribed}
+use Rattle.rt_entry.specs.declared.story.Channel.{Channel}
+use Rattle.rt_entry.specs.declared.story.Track.{Track}
+use Rattle.rt_entry.specs.declared.entry.ChannelView.{ChannelView}
+use Rattle.rt_entry.specs.Messages.{channel_message, close_message, channel_name, subscribed_message, failed_message, text_field, binding_tree, joined_response, meta_tree, metas_of, metas_tree, presence_state, presence_diff, broadcast_message, change_message}
+use Rattle.rt_entry.specs.Readable.{IsReadable}
+use Rattle.rt_laws.proofs.Plain.{AllOf, Maybe, all_append, all_map_of, all_filter}
+use Rattle.rt_laws.proofs.Fitting.{MemberFits, text_fits, number_fits, list_fits, object_fits, fits_up, members_fits}
+use Rattle.rt_laws.proofs.Texts.{is_ascii_byte, word, decimal_utf8, decimal_number}
+
+-- numbers that are spelled whole
+abbrev pub Small : ℕ → Type 0
+Small n = n < 10 ^ 64
+
+-- a binding's texts
+pub record BindingFits (b : Binding) : Type 0 where
+  pub event : IsUtf8 b.wanted
+  pub schema : IsUtf8 b.schema
+  pub table : Maybe IsUtf8 b.table
+  pub filter : Maybe IsUtf8 b.filter
+
+abbrev pub SubscribedFits : Subscribed → Type 0
+SubscribedFits s = BindingFits s.binding
+
+-- what is said of a channel
+pub record ChannelFits (ch : Channel) : Type 0 where
+  pub join_ref : IsRef ch.join_ref
+  pub topic : IsUtf8 ch.topic
+  pub name : IsUtf8 (channel_name ch)
+  pub key : IsUtf8 ch.key
+  pub bindings : AllOf SubscribedFits ch.bindings
+  pub few : length ch.bindings ≤ 100
+  pub ids : Small (ch.first_id + length ch.bindings)
+
+-- what is said of a track
+pub record TrackFits (t : Track) : Type 0 where
+  pub reference : Small t.reference
+  pub key : IsUtf8 t.key
+  pub tree : FitsWithin 62 t.tree
+
+-- lists
+
+pub recursed : {A : Type 0} (B : A → Type 0) (xs : List A) → AllOf B xs → AllByRecursion B xs
+recursed B [] h = tt
+recursed B (x ∷ xs) h = (h.0, recursed B xs h.1)
+
+recursed_filter : {A : Type 0} (B : A → Type 0) (p : A → Bool) (xs : List A) → AllByRecursion B xs → AllByRecursion B (filter p xs)
+recursed_filter B p [] a = tt
+recursed_filter B p (x ∷ xs) a =
+    elim (p x) as (λ t. AllByRecursion B (cond t (x ∷ filter p xs) (filter p xs)))
+    [ true ↦ (a.0, recursed_filter B p xs a.1) | false ↦ recursed_filter B p xs a.1 ]
+
+module _ {K : Type 0} (cmp : K → K → Ordering) (B : K → Type 0) where
+  put_all : (o : Ordering) (k l : K) (ls more : List K) → B k → AllOf B (l ∷ ls) → AllOf B more → AllOf B (inserted_by cmp o k l ls more)
+  put_all Less k l ls more h a m = (h, a)
+  put_all Equal k l ls more h a m = a
+  put_all Greater k l ls more h a m = (a.0, m)
+
+  inserted_all : (k : K) (ls : List K) → B k → AllOf B ls → AllOf B (inserted cmp k ls)
+  inserted_all k [] h a = (h, tt)
+  inserted_all k (l ∷ ls) h a = put_all (cmp k l) k l ls (inserted cmp k ls) h a (inserted_all k ls h a.1)
+
+  ordered_all : (ks : List K) → AllOf B ks → AllOf B (in_order cmp ks)
+  ordered_all [] a = tt
+  ordered_all (k ∷ ks) a = inserted_all k (in_order cmp ks) a.0 (ordered_all ks a.1)
+
+-- numbers from one on, each with its element
+abbrev pub Numbered : {A : Type 0} → ℕ → (A → Type 0) → ℕ × A → Type 0
+Numbered below B x = (x.0 < below) × B x.1
+
+pub numbered_all : {A : Type 0} (B : A → Type 0) (n below : ℕ) (xs : List A) → n + length xs ≤ below → AllOf B xs
+    → AllOf (Numbered below B) (enumerate_from n xs)
+numbered_all B n below [] le a = tt
+numbered_all B n below (x ∷ xs) le a = (((omega arith), a.0), numbered_all B (n + 1) below xs (omega arith) a.1)
+
+-- members
+
+pub text_member : (n : ℕ) (name text : List ℕ) → list_all is_ascii_byte name ≡ true → IsUtf8 text → MemberFits n (field name (Text text))
+text_member n name text a u = (word name a, text_fits n text u)
+
+maybe_text : (n : ℕ) (name : List ℕ) (o : Option (List ℕ)) → list_all is_ascii_byte name ≡ true → Maybe IsUtf8 o
+    → AllOf (MemberFits n) (text_field name o)
+maybe_text n name None a h = tt
+maybe_text n name (Some t) a h = (text_member n name t a h, tt)
+
+number_tree_fits : (levels n : ℕ) → Small n → FitsWithin levels (number_tree n)
+number_tree_fits levels n small = number_fits levels (decimal n) (decimal_number n small)
+
+-- replies
+
+reply_fits : (status : List ℕ) (n : ℕ) (response : Json) → IsUtf8 status → FitsWithin n response → FitsWithin (suc n) (reply_payload status response)
+reply_fits status n response u h =
+    object_fits n (field (codes "status") (Text status) ∷ field (codes "response") response ∷ [])
+    (text_member n (codes "status") status refl u, ((word (codes "response") refl, h), tt))
+
+module _ (m : Message) (is : IsReadable 63 m) (r : Json) (ref : IsRef r) where
+  pub ok_readable : (response : Json) → FitsWithin 65 response → IsReadable 66 (reply_ok r m response)
+  ok_readable response h = record {
+    join_ref = ref;
+    reference = is.reference;
+    topic = is.topic;
+    event = word (codes "phx_reply") refl;
+    payload = reply_fits (codes "ok") 65 response (word (codes "ok") refl) h;
+  }
+
+  pub error_readable : (reason : List ℕ) → IsUtf8 reason → IsReadable 66 (reply_error r m reason)
+  error_readable reason u = record {
+    join_ref = ref;
+    reference = is.reference;
+    topic = is.topic;
+    event = word (codes "phx_reply") refl;
+    payload = reply_fits (codes "error") 65 (reason_of reason) (word (codes "error") refl)
+        (object_fits 64 (field (codes "reason") (Text reason) ∷ []) (text_member 64 (codes "reason") reason refl u, tt));
+  }
+
+  pub empty_readable : IsReadable 66 (reply_ok r m no_members)
+  empty_readable = ok_readable no_members (object_fits 64 [] tt)
+
+-- on a channel
+
+system_fits : (n : ℕ) (text status extension channel : List ℕ) → IsUtf8 text → IsUtf8 status → IsUtf8 extension → IsUtf8 channel
+    → FitsWithin (suc n) (system_payload text status extension channel)
+system_fits n text status extension channel a b d e =
+    object_fits n (field (codes "message") (Text text) ∷ field (codes "status") (Text status) ∷ field (codes "extension") (Text extension) ∷ field
+    (codes "channel") (Text channel) ∷ []) (
+      text_member n (codes "message") text refl a,
+      (
+        text_member n (codes "status") status refl b,
+        (text_member n (codes "extension") extension refl d, (text_member n (codes "channel") channel refl e, tt)),
+      ),
+    )
+
+binding_fits : (n below : ℕ) (b : ℕ × Subscribed) → below ≤ 10 ^ 64 → Numbered below SubscribedFits b → FitsWithin (suc n) (binding_tree b)
+binding_fits n below b le h =
+    let lt = h.0 in
+    let small : Small b.0 = omega arith in
+    let f = h.1 in
+    let table = text_field (codes "table") b.1.binding.table in
+    let filter = text_field (codes "filter") b.1.binding.filter in
+    let front = field (codes "id") (number_tree b.0) ∷ field (codes "event") (Text b.1.binding.wanted) ∷ field (codes "schema")
+    (Text b.1.binding.schema) ∷ table in
+    let fits = all_append (MemberFits n) front filter (
+      (word (codes "id") refl, number_tree_fits n b.0 small),
+      (
+        text_member n (codes "event") b.1.binding.wanted refl f.event,
+        (
+          text_member n (codes "schema") b.1.binding.schema refl f.schema,
+          maybe_text n (codes "table") b.1.binding.table refl f.table,
+        ),
+      ),
+    )
+    (maybe_text n (codes "filter") b.1.binding.filter refl f.filter) in
+    object_fits n (front ++ filter) (recursed (MemberFits n) (front ++ filter) fits)
+
+module _ (ch : Channel) (f : ChannelFits ch) where
+  on_channel : (event : List ℕ) (payload : Json) → list_all is_ascii_byte event ≡ true → FitsWithin 66 payload
+      → IsReadable 66 (channel_message ch event payload)
+  on_channel event payload a h = record { join_ref = f.join_ref; reference = tt; topic = f.topic; event = word event a; payload = h }
+
+  pub close_readable : IsReadable 66 (close_message ch)
+  close_readable = record {
+    join_ref = f.join_ref;
+    reference = f.join_ref;
+    topic = f.topic;
+    event = word
+        (codes "phx_close") refl;
+    payload = object_fits 65 [] tt;
+  }
+
+  pub subscribed_readable : IsReadable 66 (subscribed_message ch)
+  subscribed_readable =
+      on_channel (codes "system") _ refl (system_fits 65 (codes "Subscribed to PostgreSQL") (codes "ok") (codes "postgres_changes") (channel_name ch)
+      (word (codes "Subscribed to PostgreSQL") refl) (word (codes "ok") refl) (word (codes "postgres_changes") refl) f.name)
+
+  pub failed_readable : (reason : List ℕ) → IsUtf8 reason → IsReadable 66 (failed_message ch reason)
+  failed_readable reason u =
+      on_channel (codes "system") _ refl (system_fits 65 reason (codes "error") (codes "system") (channel_name ch) u (word (codes "error") refl)
+      (word (codes "system") refl) f.name)
+
+  pub joined_fits : FitsWithin 65 (joined_response ch)
+  joined_fits =
+      let below = ch.first_id + length ch.bindings in
+      let small = f.ids in
+      let numbered = enumerate_from ch.first_id ch.bindings in
+      let trees = recursed (FitsWithin 63) (map binding_tree numbered)
+      (all_map_of (FitsWithin 63) (Numbered below SubscribedFits) binding_tree numbered (λ b h. binding_fits 62 below b (omega arith) h)
+      (numbered_all SubscribedFits ch.first_id below ch.bindings (omega arith) f.bindings)) in
+      object_fits 64 (field (codes "postgres_changes") (j.List (map binding_tree numbered)) ∷ [])
+      ((word (codes "postgres_changes") refl, list_fits 63 (map binding_tree numbered) trees), tt)
+
+  pub broadcast_readable : (payload : Json) → FitsWithin 63 payload → IsReadable 66 (broadcast_message ch payload)
+  broadcast_readable payload h = on_channel (codes "broadcast") payload refl (fits_up 3 63 payload h)
+
+  -- presence
+
+  meta_fits : (t : Track) → TrackFits t → FitsWithin 62 (meta_tree t)
+  meta_fits t h =
+      object_fits 61 (field (codes "phx_ref") (Text (decimal t.reference)) ∷ filter (λ (m : Member). not (bytes_eq m.name (codes "phx_ref")))
+      (members_of t.tree)) (
+        text_member 61 (codes "phx_ref") (decimal t.reference) refl (decimal_utf8 t.reference h.reference),
+        recursed_filter (MemberFits 61) (λ (m : Member). not (bytes_eq m.name (codes "phx_ref"))) (members_of t.tree) (members_fits 61 t.tree h.tree),
+      )
+
+  key_metas : (tracks : List Track) (key : List ℕ) → AllOf TrackFits tracks → IsUtf8 key → MemberFits 64 (metas_of tracks key)
+  key_metas tracks key a u =
+      let own = filter (λ (t : Track). bytes_eq t.key key) tracks in
+      let metas = recursed (FitsWithin 62) (map meta_tree own)
+      (all_map_of (FitsWithin 62) TrackFits meta_tree own meta_fits (all_filter TrackFits (λ (t : Track). bytes_eq t.key key) tracks a)) in (
+        u,
+        object_fits 63 (field (codes "metas") (j.List (map meta_tree own)) ∷ [])
+            ((word (codes "metas") refl, list_fits 62 (map meta_tree own) metas), tt),
+      )
+
+  metas_fit : (tracks : List Track) → AllOf TrackFits tracks → FitsWithin 65 (metas_tree tracks)
+  metas_fit tracks a =
+      let keys = map (λ (t : Track). t.key) tracks in
+      let order = slice_cmp nat_cmp in
+      let ordered = ordered_all order IsUtf8 keys (all_map_of IsUtf8 TrackFits (λ (t : Track). t.key) tracks (λ t h. h.key) a) in
+      object_fits 64 (map (metas_of tracks) (in_order order keys))
+      (recursed (MemberFits 64) (map (metas_of tracks) (in_order order keys))
+      (all_map_of (MemberFits 64) IsUtf8 (metas_of tracks) (in_order order keys) (λ key u. key_metas tracks key a u) ordered))
+
+  pub state_readable : (tracks : List Track) → AllOf TrackFits tracks → IsReadable 66 (presence_state ch tracks)
+  state_readable tracks a = on_channel (codes "presence_state") (metas_tree tracks) refl (fits_up 1 65 (metas_tree tracks) (metas_fit tracks a))
+
+  pub diff_readable : (joins leaves : List Track) → AllOf TrackFits joins → AllOf TrackFits leaves → IsReadable 66 (presence_diff ch joins leaves)
+  diff_readable joins leaves a b =
+      on_channel (codes "presence_diff") _ refl
+      (object_fits 65 (field (codes "joins") (metas_tree joins) ∷ field (codes "leaves") (metas_tree leaves) ∷ [])
+      ((word (codes "joins") refl, metas_fit joins a), ((word (codes "leaves") refl, metas_fit leaves b), tt)))
+
+-- the changes of a channel
+
+pub change_readable : (to : ChannelView) (ids : List ℕ) (tree : Json) → IsRef to.join_ref → IsUtf8 to.topic → AllOf Small ids → FitsWithin 63 tree
+    → IsReadable 66 (change_message to ids tree)
+change_readable to ids tree ref topic small h =
+    let numbers = recursed (FitsWithin 64) (map number_tree ids)
+    (all_map_of (FitsWithin 64) Small number_tree ids (λ n s. number_tree_fits 64 n s) small) in
+    record {
+      join_ref = ref;
+      reference = tt;
+      topic = topic;
+      event = word (codes "postgres_changes") refl;
+      payload = object_fits 65 (field (codes "ids") (j.List (map number_tree ids)) ∷ field (codes "data") tree ∷ [])
+          ((word (codes "ids") refl, list_fits 64 (map number_tree ids) numbers), ((word (codes "data") refl, fits_up 2 63 tree h), tt));
+    }
