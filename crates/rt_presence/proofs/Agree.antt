@@ -1,20 +1,17 @@
 -- A client that was told a state and then the differences of each later call holds the metas of those present.
 use Rattle.std.proofs.Common.{◌≡◌, ◌⊎◌, ℕ, ◌<◌, Bool, true, false, ◌||◌, ◌&&◌, not, cond, List, [], ◌∷◌, ◌++◌, map, Option, Some, None, option_map, option_to_list, append-nil, refl, sym, ap, subst, ◌∙◌, arith, inl, inr}
-use Rattle.std.specs.Prelude.{◌==◌, ◌^◌, find, filter, IsPermutation, if◌then◌else◌}
+use Rattle.std.specs.Prelude.{◌==◌, ◌^◌, find, filter, if◌then◌else◌}
 use Rattle.std.specs.Fmt.{decimal}
 use Rattle.std.specs.List.{AllByRecursion}
 use Rattle.std.proofs.lemmas.List.Elements.{filter-append}
 use Rattle.std.specs.Ordering.{is_lt}
 use Rattle.std.specs.Str.{bytes_eq}
 use Rattle.std.proofs.lemmas.Bool.Decides.{Decides-eqb}
-use Rattle.std.proofs.lemmas.Slice.Eq.{bytes_eq-Decides}
-use Rattle.rt_json.specs.declared.tree.Json.{Json}
-use Rattle.rt_presence.specs.declared.tracks.Track.{Track}
 use Rattle.rt_presence.specs.declared.tracks.Place.{Place}
 use Rattle.rt_presence.specs.declared.differences.Diff.{Diff}
 use Rattle.rt_presence.specs.Tracks.{Standing, track_cmp, is_of, put, track_of, without_channel, meta_of, joining, leaving}
 use Rattle.rt_presence.specs.Index.{place_of}
-use Rattle.rt_presence.specs.Trees.{Held, shown, on_topic, state_tree, difference_tree, joins_of, leaves_of, meta_tree, under}
+use Rattle.rt_presence.specs.Trees.{Held, shown, on_topic, difference_tree, joins_of, leaves_of, under}
 use Rattle.rt_presence.specs.Calls.{Call, tracks, ends, after_calls, is_by}
 use Rattle.rt_presence.specs.Client.{reference_of, is_among, after_difference, answered, client_view, IsAfter, AreNumbered, ClientsAgree}
 use Rattle.rt_presence.proofs.Orders.{of_place, at_place}

@@ -35,10 +35,6 @@ among_either [] ys y h = inr h
 among_either (x ∷ xs) ys y (inl e) = inl (inl e)
 among_either (x ∷ xs) ys y (inr h) = elim (among_either xs ys y h) [ inl a ↦ inl (inr a) | inr b ↦ inr b ]
 
--- from a front of it that is cut behind
-pub among_front : {A : Type 0} (xs rest ys : List A) (y : A) → xs ++ rest ≡ ys → Among xs y → Among ys y
-among_front {A} xs rest ys y e h = let P : List A → Type 0 = λ zs. Among zs y in subst P e (among_left xs rest y h)
-
 pub among_flat : {A B : Type 0} (f : A → List B) (xs : List A) (y : B) → Among (flat_map f xs) y → (x : A) × Among xs x × Among (f x) y
 among_flat f [] y h = absurd h
 among_flat f (x ∷ xs) y h =

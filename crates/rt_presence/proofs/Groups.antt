@@ -14,9 +14,8 @@ use Rattle.std.proofs.lemmas.Map.Text.{is_eq-slice_cmp}
 use Rattle.std.proofs.lemmas.Slice.Eq.{bytes_eq-Decides}
 use Rattle.rt_value.specs.Ordered.{inserted_by, inserted, in_order}
 use Rattle.rt_json.specs.declared.tree.Json.{Json}
-use Rattle.rt_json.specs.declared.tree.named.Member.{Member}
 use Rattle.rt_presence.specs.Trees.{Held, Groups, under_key, metas_member, metas_of, added, all_added}
-use Rattle.rt_presence.proofs.Plain.{AllOf, all_weaker, map_map}
+use Rattle.rt_presence.proofs.Plain.{AllOf, all_weaker, map_map, map_same}
 use Rattle.rt_presence.proofs.Keys.{by_bytes, same, IsIn, Rises, Above, apart, tied, ordered_rises, ordered_has}
 
 -- one more at the end is added first
@@ -30,10 +29,10 @@ back hs k = (k, reverse (under_key hs k))
 abbrev backs : List Held → List (List ℕ) → Groups
 backs hs ks = map (back hs) ks
 
-under_other : (h : Held) (hs : List Held) (k : List ℕ) → bytes_eq h.0 k ≡ false → under_key (h ∷ hs) k ≡ under_key hs k
+pub under_other : (h : Held) (hs : List Held) (k : List ℕ) → bytes_eq h.0 k ≡ false → under_key (h ∷ hs) k ≡ under_key hs k
 under_other h hs k e = ap (λ b. map (λ (x : Held). x.1) (cond b (h ∷ filter (λ (x : Held). bytes_eq x.0 k) hs) (filter (λ (x : Held). bytes_eq x.0 k) hs))) e
 
-under_own : (h : Held) (hs : List Held) → under_key (h ∷ hs) h.0 ≡ h.1 ∷ under_key hs h.0
+pub under_own : (h : Held) (hs : List Held) → under_key (h ∷ hs) h.0 ≡ h.1 ∷ under_key hs h.0
 under_own h hs =
     ap (λ b. map (λ (x : Held). x.1) (cond b (h ∷ filter (λ (x : Held). bytes_eq x.0 h.0) hs) (filter (λ (x : Held). bytes_eq x.0 h.0) hs)))
     ((bytes_eq-Decides h.0 h.0).1 refl)
@@ -104,7 +103,7 @@ module _ (hs : List Held) (k : List ℕ) where
       absurd (let bad : true ≡ false = sym i ∙ ap (λ (x : List ℕ). list_any (same x) ks) ((bytes_eq-Decides h.0 k).0 e) ∙ none in cc)
   not_there h ks false e i none = refl
 
-  nothing_under : (gs : List Held) (ks : List (List ℕ)) → AllOf (λ (h : Held). IsIn ks h.0) gs → list_any (same k) ks ≡ false → under_key gs k ≡ []
+  pub nothing_under : (gs : List Held) (ks : List (List ℕ)) → AllOf (λ (h : Held). IsIn ks h.0) gs → list_any (same k) ks ≡ false → under_key gs k ≡ []
   nothing_under [] ks a none = refl
   nothing_under (g ∷ gs) ks a none = under_other g gs k (not_there g ks (bytes_eq g.0 k) refl a.0 none) ∙ nothing_under gs ks a.1 none
 
@@ -146,13 +145,9 @@ all_back (h ∷ hs) =
     ∙ ap (λ (ms : List Json). insert_entry by_bytes (rest h hs (keys hs)) h.0 (ms ++ h.1 ∷ [])) (found hs h.0 (keys hs) (all_unmap (IsIn (keys hs)) (λ (x : Held). x.0) hs (ordered_has (map (λ (x : Held). x.0) hs))))
     ∙ step h hs (keys hs) (ordered_rises (map (λ (x : Held). x.0) hs))
 
-map_same : {A B : Type 0} (f g : A → B) (xs : List A) → ((x : A) → f x ≡ g x) → map f xs ≡ map g xs
-map_same f g [] e = refl
-map_same f g (x ∷ xs) e = ap (λ y. y ∷ map f xs) (e x) ∙ ap (λ ys. g x ∷ ys) (map_same f g xs e)
-
 -- the members of all groups
 pub members_are : (hs : List Held) → map (λ (g : List ℕ × List Json). metas_member g.0 (reverse g.1)) (all_added hs []) ≡ map (metas_of hs) (keys hs)
 members_are hs =
     ap (map (λ (g : List ℕ × List Json). metas_member g.0 (reverse g.1))) (all_back hs)
     ∙ map_map (λ (g : List ℕ × List Json). metas_member g.0 (reverse g.1)) (back hs) (keys hs)
-    ∙ map_same (λ k. metas_member k (reverse (reverse (under_key hs k)))) (metas_of hs) (keys hs) (λ k. ap (metas_member k) (reverse-reverse (under_key hs k)))
+    ∙ map_same (λ k. metas_member k (reverse (reverse (under_key hs k)))) (metas_of hs) (λ k. ap (metas_member k) (reverse-reverse (under_key hs k))) (keys hs)

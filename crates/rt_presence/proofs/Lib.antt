@@ -6,6 +6,7 @@ pub mod Plain
 pub mod Moves
 pub mod Keys
 pub mod Groups
+pub mod Neighbours
 pub mod Stands
 pub mod ReadAgain
 pub mod Agree

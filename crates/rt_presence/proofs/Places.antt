@@ -4,9 +4,8 @@ use Rattle.std.specs.Prelude.{find, filter, IfSome, if◌then◌else◌}
 use Rattle.std.specs.declared.cmp.Ordering.{Ordering}
 use Rattle.std.specs.declared.cmp.Ordering.TheVariants.{Less, Equal, Greater}
 use Rattle.std.specs.BTreeMap.{insert_entry, is_at}
-use Rattle.std.specs.List.{AllByRecursion}
 use Rattle.std.specs.List.Sorted.{IsStrictlySortedBy}
-use Rattle.std.specs.Map.{keys_of, lookup, remove_entry}
+use Rattle.std.specs.Map.{keys_of}
 use Rattle.std.specs.Ordering.{is_eq, is_lt, match_ordering}
 use Rattle.rt_json.specs.declared.tree.Json.{Json}
 use Rattle.rt_ptree.specs.Entries.{IsRising, Updates, value_at, without_key}
@@ -14,14 +13,8 @@ use Rattle.rt_presence.specs.declared.tracks.Track.{Track}
 use Rattle.rt_presence.specs.declared.tracks.Place.{Place}
 use Rattle.rt_presence.specs.Tracks.{Standing, track_cmp, place_cmp, is_of, put, track_of, without_channel}
 use Rattle.rt_presence.specs.Index.{IsIndexed, place_of}
-use Rattle.rt_presence.proofs.Orders.{track_total, track_exact, place_exact, is_eq_true, of_place, at_place, of_is, told}
-
-abbrev pub AllOf : {A : Type 0} → (A → Type 0) → List A → Type 0
-AllOf B xs = AllByRecursion B xs
-
-pub all_weaker : {A : Type 0} (B D : A → Type 0) (xs : List A) → ((x : A) → B x → D x) → AllOf B xs → AllOf D xs
-all_weaker B D [] f a = tt
-all_weaker B D (x ∷ xs) f a = (f x a.0, all_weaker B D xs f a.1)
+use Rattle.rt_presence.proofs.Plain.{AllOf, all_weaker}
+use Rattle.rt_presence.proofs.Orders.{track_exact, place_exact, is_eq_true, of_place, at_place, of_is, told}
 
 kept : {A : Type 0} (D : A → Type 0) (x : A) (xs : List A) (b : Bool) → (b ≡ true → D x) → AllOf D xs → AllOf D (cond b (x ∷ xs) xs)
 kept D x xs true f a = (f refl, a)

@@ -1,12 +1,11 @@
 -- What holds of each element of a list, by recursion.
-use Rattle.std.proofs.Common.{◌≡◌, ◌⊎◌, Bool, true, false, ◌||◌, ◌&&◌, not, cond, List, [], ◌∷◌, ◌++◌, map, reverse, length, Option, Some, None, refl, ap, subst, ◌∙◌, arith, inl, inr}
+use Rattle.std.proofs.Common.{◌≡◌, Bool, true, false, ◌||◌, ◌&&◌, cond, List, [], ◌∷◌, ◌++◌, map, Option, Some, None, refl, ap, subst, ◌∙◌, inl, inr}
 use Rattle.std.specs.Prelude.{⊤, find}
-use Rattle.std.specs.List.{filter, flat_map, list_any}
+use Rattle.std.specs.List.{AllByRecursion, filter, flat_map, list_any}
 use Rattle.rt_presence.proofs.Among.{Among}
 
 abbrev pub AllOf : {A : Type 0} → (A → Type 0) → List A → Type 0
-AllOf B [] = ⊤
-AllOf B (x ∷ xs) = B x × AllOf B xs
+AllOf B xs = AllByRecursion B xs
 
 pub all_append : {A : Type 0} (B : A → Type 0) (xs ys : List A) → AllOf B xs → AllOf B ys → AllOf B (xs ++ ys)
 all_append B [] ys a b = b
@@ -63,10 +62,6 @@ any_among p [] x h e = absurd h
 any_among p (y ∷ xs) x (inl k) e = ap (λ b. b || list_any p xs) (ap p k ∙ e)
 any_among p (y ∷ xs) x (inr h) e = elim (p y) as (λ b. (b || list_any p xs) ≡ true) [ true ↦ refl | false ↦ any_among p xs x h e ]
 
-pub not_or : (a b : Bool) → not (a || b) ≡ (not a && not b)
-not_or true b = refl
-not_or false b = refl
-
 pub and_swap : (a b : Bool) → (a && b) ≡ (b && a)
 and_swap true true = refl
 and_swap true false = refl
@@ -106,9 +101,3 @@ filter_map_swap p f [] = refl
 filter_map_swap p f (x ∷ xs) =
     ap (λ ys. cond (p (f x)) (f x ∷ ys) ys) (filter_map_swap p f xs)
     ∙ elim (p (f x)) as (λ b. cond b (f x ∷ map f (filter (λ y. p (f y)) xs)) (map f (filter (λ y. p (f y)) xs)) ≡ map f (cond b (x ∷ filter (λ y. p (f y)) xs) (filter (λ y. p (f y)) xs))) [ true ↦ refl | false ↦ refl ]
-
-pub reverse_short : {A : Type 0} (xs : List A) → (length xs ≡ 0) ⊎ (length xs ≡ 1) → reverse xs ≡ xs
-reverse_short [] h = refl
-reverse_short (x ∷ []) h = refl
-reverse_short (x ∷ y ∷ more) (inl h) = absurd (omega arith)
-reverse_short (x ∷ y ∷ more) (inr h) = absurd (omega arith)

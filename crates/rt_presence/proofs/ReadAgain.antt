@@ -1,16 +1,13 @@
 -- What a client reads of trees of metas is what was written, up to order.
-use Rattle.std.proofs.Common.{◌≡◌, ℕ, ◌<◌, Bool, true, false, ◌||◌, not, cond, List, [], ◌∷◌, ◌++◌, map, Option, Some, None, refl, sym, ap, ◌∙◌, inl, inr}
+use Rattle.std.proofs.Common.{◌≡◌, ℕ, ◌<◌, Bool, true, false, not, cond, List, [], ◌∷◌, ◌++◌, map, Option, Some, None, refl, sym, ap, ◌∙◌, inl, inr}
 use Rattle.std.specs.Prelude.{◌==◌, ◌^◌, codes, unwrap_or}
 use Rattle.std.specs.Fmt.{decimal}
-use Rattle.std.specs.List.{filter, flat_map, list_any}
+use Rattle.std.specs.List.{filter, flat_map}
 use Rattle.std.specs.Str.{bytes_eq}
-use Rattle.std.specs.Ordering.{nat_cmp}
-use Rattle.std.specs.Cmp.Lexicographic.{slice_cmp}
 use Rattle.std.proofs.lemmas.Bool.Decides.{eqb_tells}
 use Rattle.std.proofs.lemmas.Fmt.{decimal_injective}
 use Rattle.std.proofs.lemmas.Slice.Eq.{bytes_eq-Decides}
 use Rattle.rt_value.specs.Choice.{◌>>=◌}
-use Rattle.rt_value.specs.Ordered.{in_order}
 use Rattle.rt_json.specs.declared.tree.Json.{Json, Text, Row_of-Json, end_of-Json, more_of-Json, items-the_row-Json, items_hidden-the_row-Json-0, Row_of-Member, end_of-Member, more_of-Member, items-the_row-Member, items_hidden-the_row-Member-1}
 use Rattle.rt_json.specs.declared.tree.Json.TheBlock.{hidden-the_row-Json-0, hidden-the_row-Member-1}
 use Rattle.rt_json.specs.declared.tree.Json.TheVariants as j
@@ -21,7 +18,7 @@ use Rattle.rt_json.specs.Trees.{field, list_of, text_of, row_items}
 use Rattle.rt_presence.specs.declared.differences.Diff.{Diff}
 use Rattle.rt_presence.specs.Trees.{Held, is_kept, meta_object, under_key, metas_of, metas_tree, joins_of, leaves_of, difference_tree}
 use Rattle.rt_presence.specs.Client.{metas_under, metas_in, reference_of, part_of, is_among, after_difference}
-use Rattle.rt_presence.proofs.Plain.{AllOf, filter_alike, all_every}
+use Rattle.rt_presence.proofs.Plain.{filter_alike, all_every}
 use Rattle.rt_presence.proofs.Moves.{Moves, then_to, moves_same, moves_filter, moves_left, moves_right, moves_any}
 use Rattle.rt_presence.proofs.Keys.{IsIn, ordered_rises, ordered_has, of_key, group, grouped}
 use Rattle.rt_presence.proofs.Groups.{all_unmap, keys}

@@ -1,13 +1,11 @@
 -- What stands after calls was tracked, and no later call of the same channel on its topic replaced or removed it; and each such track stands.
-use Rattle.std.proofs.Common.{◌≡◌, ◌⊎◌, ◌↔◌, ℕ, Bool, true, false, ◌||◌, ◌&&◌, not, cond, List, [], ◌∷◌, ◌++◌, refl, ap, ap₂, sym, subst, ◌∙◌, inl, inr}
-use Rattle.std.specs.Prelude.{◌==◌, filter, Contains}
+use Rattle.std.proofs.Common.{◌≡◌, ◌⊎◌, ℕ, Bool, true, false, ◌||◌, ◌&&◌, not, List, [], ◌∷◌, ◌++◌, refl, ap, ap₂, sym, subst, ◌∙◌, inl, inr}
+use Rattle.std.specs.Prelude.{◌==◌}
 use Rattle.std.specs.List.{list_any}
 use Rattle.std.specs.Ordering.{is_lt}
 use Rattle.std.specs.Str.{bytes_eq}
 use Rattle.std.proofs.lemmas.Slice.Eq.{bytes_eq-Decides}
 use Rattle.std.proofs.lemmas.Bool.Decides.{Decides-eqb}
-use Rattle.rt_json.specs.declared.tree.Json.{Json}
-use Rattle.rt_presence.specs.declared.tracks.Track.{Track}
 use Rattle.rt_presence.specs.Tracks.{Standing, track_cmp, is_of, put, without_channel}
 use Rattle.rt_presence.specs.Index.{place_of}
 use Rattle.rt_presence.specs.Calls.{Call, tracks, ends, after_call, after_calls, is_by, Stands, CallsLeave}

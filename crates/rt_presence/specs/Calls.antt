@@ -3,9 +3,8 @@ use Rattle.std.specs.Prelude.{◌≡◌, ◌==◌, ◌↔◌, ℕ, Bool, false, 
 use Rattle.std.specs.List.{list_any}
 use Rattle.std.specs.Str.{bytes_eq}
 use Rattle.rt_json.specs.declared.tree.Json.{Json}
-use Rattle.rt_ptree.specs.Entries.{IsRising}
 use Rattle.rt_presence.specs.declared.tracks.Track.{Track}
-use Rattle.rt_presence.specs.Tracks.{Standing, track_cmp, is_of, without_channel, with_track}
+use Rattle.rt_presence.specs.Tracks.{Standing, is_of, without_channel, with_track}
 
 -- a channel tracks, or tracks nothing on the topic from here on (it untracks, or departs)
 pub data Call : Type 0 where

@@ -1,6 +1,6 @@
 -- What a client holds (the Realtime protocol, "Presence"): the metas of a state, then from each difference its joins added and its leaves removed by
 -- `phx_ref`.
-use Rattle.std.specs.Prelude.{◌≡◌, ℕ, ◌<◌, ◌^◌, not, Bool, ⊤, List, [], ◌∷◌, ◌++◌, map, filter, codes, Option, unwrap_or, option_map, option_to_list, IsPermutation, if◌then◌else◌}
+use Rattle.std.specs.Prelude.{ℕ, ◌<◌, ◌^◌, not, Bool, ⊤, List, [], ◌∷◌, ◌++◌, map, filter, codes, unwrap_or, option_map, option_to_list, IsPermutation, if◌then◌else◌}
 use Rattle.std.specs.List.{flat_map, list_any, AllByRecursion}
 use Rattle.std.specs.Str.{bytes_eq}
 use Rattle.rt_value.specs.Choice.{◌>>=◌}
@@ -9,7 +9,6 @@ use Rattle.rt_json.specs.declared.tree.Json.TheVariants as j
 use Rattle.rt_json.specs.declared.tree.named.Member.{Member}
 use Rattle.rt_json.specs.Lookup.{member_of, members_of}
 use Rattle.rt_json.specs.Trees.{text_of, list_of}
-use Rattle.rt_presence.specs.declared.tracks.Track.{Track}
 use Rattle.rt_presence.specs.declared.differences.Diff.{Diff}
 use Rattle.rt_presence.specs.Tracks.{Standing, track_of, joining, leaving}
 use Rattle.rt_presence.specs.Trees.{Held, shown, on_topic, state_tree, difference_tree}

@@ -1,11 +1,10 @@
 -- The tracks by topic and channel.
-use Rattle.std.specs.Prelude.{◌≡◌, ℕ, List, [], Some, IfSome, filter}
+use Rattle.std.specs.Prelude.{◌≡◌, ℕ, List, [], Some, IfSome}
 use Rattle.std.specs.List.{AllByRecursion}
 use Rattle.rt_ptree.specs.Entries.{value_at}
 use Rattle.rt_presence.specs.declared.tracks.Track.{Track}
 use Rattle.rt_presence.specs.declared.tracks.Place.{Place}
-use Rattle.std.specs.Ordering.{is_lt}
-use Rattle.rt_presence.specs.Tracks.{Standing, place_cmp, track_cmp, track_at}
+use Rattle.rt_presence.specs.Tracks.{Standing, place_cmp, track_at}
 
 abbrev pub place_of : Track → Place
 place_of t = record { topic = t.topic; channel = t.channel }
@@ -14,10 +13,6 @@ place_of t = record { topic = t.topic; channel = t.channel }
 pub record IsIndexed (tracks : List Standing) (places : List (Place × Track)) : Type 0 where
   pub found : AllByRecursion (λ t. value_at place_cmp places (place_of t.0) ≡ Some t.0) tracks
   pub own : (p : Place) → IfSome (value_at place_cmp places p) (λ t. place_of t ≡ p)
-
--- the tracks behind this one, in order
-abbrev pub above : List Standing → Track → List Standing
-above tracks t = filter (λ u. is_lt (track_cmp t u.0)) tracks
 
 -- the first of all tracks that may be on the topic
 abbrev pub least_on : List ℕ → Track

@@ -1,5 +1,5 @@
 -- The trees of presence messages (the Realtime protocol, "Presence").
-use Rattle.std.specs.Prelude.{ℕ, not, List, [], ◌∷◌, ◌++◌, map, codes, Bool, Option, option_map, filter, unwrap_or}
+use Rattle.std.specs.Prelude.{ℕ, not, List, [], ◌∷◌, ◌++◌, map, codes, Bool, cond, option_map, filter, unwrap_or}
 use Rattle.std.specs.Fmt.{decimal}
 use Rattle.std.specs.List.{filter_map}
 use Rattle.std.specs.Str.{bytes_eq}
@@ -68,10 +68,24 @@ leaves_of ds = filter_map (λ d. option_map (under d.key) d.left) ds
 abbrev pub difference_tree : List Diff → Json
 difference_tree ds = j.Object (field (codes "joins") (metas_tree (joins_of ds)) ∷ field (codes "leaves") (metas_tree (leaves_of ds)) ∷ [])
 
--- metas by their keys, the last first: one more in front
+-- keys, each with metas under it
 abbrev pub Groups : Type 0
 Groups = List (List ℕ × List Json)
 
+-- the keys in byte order, each with its metas
+abbrev pub groups_of : List Held → Groups
+groups_of held = map (λ key. (key, under_key held key)) (in_order (slice_cmp nat_cmp) (map (λ h. h.0) held))
+
+abbrev pub groups_tree : Groups → Json
+groups_tree groups = j.Object (map (λ g. metas_member g.0 g.1) groups)
+
+-- one more behind the metas of the last key, where it is under that, and else under a key of its own
+abbrev pub put_last : Held → Groups → Groups
+put_last h [] = (h.0, h.1 ∷ []) ∷ []
+put_last h (g ∷ []) = cond (bytes_eq g.0 h.0) ((g.0, g.1 ++ h.1 ∷ []) ∷ []) (g ∷ (h.0, h.1 ∷ []) ∷ [])
+put_last h (g ∷ k ∷ gs) = g ∷ put_last h (k ∷ gs)
+
+-- metas by their keys, the last first: one more in front
 abbrev pub added : Held → Groups → Groups
 added h groups =
     insert_entry (slice_cmp nat_cmp) (remove_entry (is_at (slice_cmp nat_cmp h.0)) groups) h.0

@@ -1,15 +1,14 @@
-ghost use Rattle.std.specs.Prelude.{◌≡◌, ◌++◌, [], option_to_list, None, Some, map, option_map, IfOk, OnOk, OnErr, IfSome};
-ghost use Rattle.rt_presence.specs.Tracks.{track_cmp, track_of, without_channel, with_track, put, track_at, meta_of, joining, leaving};
+ghost use Rattle.std.specs.Prelude.{◌≡◌, [], None, Some, map, option_map, IfOk, OnOk, OnErr};
+ghost use Rattle.rt_presence.specs.Tracks.{track_of, without_channel, with_track, put, track_at, meta_of, joining, leaving};
 ghost use Rattle.std.specs.Arc.{arc_value};
 ghost use Rattle.std.specs.BTreeMap.{insert_entry};
-ghost use Rattle.rt_ptree.specs.Entries.{Updates, value_at};
-ghost use Rattle.rt_presence.specs.Index.{place_of, above, least_on};
-ghost use Rattle.rt_presence.specs.Walk.{rest_of};
-ghost use Rattle.rt_presence.specs.Trees.{shown, on_topic, state_tree};
+ghost use Rattle.rt_ptree.specs.Entries.{Updates};
+ghost use Rattle.rt_presence.specs.Index.{place_of, least_on};
+ghost use Rattle.rt_presence.specs.Trees.{shown, on_topic, state_tree, groups_of};
 
 use crate::differences::{Diff, Meta};
 use crate::tracks::{Place, Track};
-use crate::trees::{Held, meta_object, metas_tree};
+use crate::trees::{Group, groups_tree, meta_object, put_last};
 use rt_json::Json;
 use rt_ptree::Tree;
 use rt_value::Text;
@@ -247,45 +246,6 @@ impl Presence {
         self.untrack(topic, channel)
     }
 
-    // The next track on the topic behind one of it.
-    fn next_on(&self, topic: &Text, track: &Track) -> Option<(&Track, &Json)>
-        requires { track.now.topic ≡ topic.now }
-        ensures rest { on_topic topic.now (above self.now track.now) ≡ rest_of topic.now self.now result }
-        ensures topic { IfSome result (λ t. t.0.now.topic ≡ topic.now) }
-    {
-        let _count = self.tracks.len();
-        match self.tracks.after(track) {
-            None => None,
-            Some((next, tree)) => {
-                if next.topic.get() == topic.get() {
-                    Some((next, tree))
-                } else {
-                    None
-                }
-            }
-        }
-    }
-
-    fn held(&self, track: &Track, tree: &Json) -> Result<Held, AllocError>
-        ensures { IfOk result (λ h. h ≡ shown (track.now, tree.now)) }
-    {
-        let meta = meta_object(self.alloc, track.reference, tree)?;
-        Ok((track.key.copy(self.alloc)?, meta))
-    }
-
-    // The metas of the topic's tracks behind one of it.
-    fn put_above(&self, topic: &Text, track: &Track, out: &mut Vec<Held>) -> Result<(), AllocError>
-        requires { track.now.topic ≡ topic.now }
-        ensures { OnOk result (out.new.items ≡ out.old.items ++ map shown (on_topic topic.now (above self.now track.now))) }
-    {
-        let mut next = self.next_on(topic, track);
-        while let Some((here, tree)) = next {
-            out.push(self.held(here, tree)?)?;
-            next = self.next_on(topic, here);
-        }
-        Ok(())
-    }
-
     fn least_on(&self, topic: &Text) -> Result<Track, AllocError>
         ensures { IfOk result (λ t. t ≡ least_on topic.now) }
     {
@@ -297,29 +257,22 @@ impl Presence {
         })
     }
 
-    // The metas of the topic's tracks.
-    fn shown_on(&self, topic: &Text) -> Result<Vec<Held>, AllocError>
-        ensures { IfOk result (λ held. held.items ≡ map shown (on_topic topic.now self.now)) }
+    // The metas of the topic's tracks by their keys.
+    fn groups_on(&self, topic: &Text) -> Result<Vec<Group>, AllocError>
+        ensures { IfOk result (λ groups. groups.items ≡ groups_of (map shown (on_topic topic.now self.now))) }
     {
+        // A tree's count tells a proof that its keys rise.
         let _count = self.tracks.len();
         let least = self.least_on(topic)?;
-        let mut held = Vec::new(self.alloc);
-        self.put_at(&least, &mut held)?;
-        self.put_above(topic, &least, &mut held)?;
-        Ok(held)
-    }
-
-    fn put_at(&self, track: &Track, out: &mut Vec<Held>) -> Result<(), AllocError>
-        ensures { OnOk result (out.new.items
-            ≡ out.old.items ++ map shown (option_to_list (option_map (λ tree. (track.now, tree)) (value_at track_cmp self.now track.now)))) }
-    {
-        match self.tracks.get(track) {
-            None => Ok(()),
-            Some(tree) => {
-                out.push(self.held(track, tree)?)?;
-                Ok(())
+        let mut groups = Vec::new(self.alloc);
+        for (track, tree) in self.tracks.entries_from(&least) {
+            if track.topic.get() != topic.get() {
+                break;
             }
+            let meta = meta_object(self.alloc, track.reference, tree)?;
+            put_last(self.alloc, &mut groups, &track.key, meta)?;
         }
+        Ok(groups)
     }
 
     /// The tree of a `presence_state` of the topic: the metas under each key, the keys in byte order and the metas of a key in order of
@@ -327,6 +280,6 @@ impl Presence {
     pub fn state(&self, topic: &Text) -> Result<Json, AllocError>
         ensures { IfOk result (λ tree. tree ≡ state_tree self.now topic.now) }
     {
-        metas_tree(self.alloc, self.shown_on(topic)?)
+        groups_tree(self.alloc, self.groups_on(topic)?)
     }
 }

@@ -2,7 +2,7 @@
 ghost use Rattle.std.specs.Prelude.{◌≡◌, ◌++◌, ◌∷◌, [], IfOk, OnOk, filter, reverse, map, option_map, option_to_list};
 ghost use Rattle.rt_json.specs.Lookup.{members_of};
 ghost use Rattle.rt_json.specs.Trees.{field};
-ghost use Rattle.rt_presence.specs.Trees.{is_kept, meta_object, metas_member, metas_tree, added, all_added, joins_of, leaves_of, difference_tree, under};
+ghost use Rattle.rt_presence.specs.Trees.{is_kept, meta_object, metas_member, metas_tree, added, all_added, joins_of, leaves_of, difference_tree, under, put_last, groups_tree};
 
 use crate::differences::{Diff, Meta};
 use rt_json::{Json, Member};
@@ -11,7 +11,10 @@ use std::alloc::{AllocError, Global};
 use std::collections::BTreeMap;
 
 /// A key, and the tree of a meta under it.
-pub type Held = (Text, Json);
+type Held = (Text, Json);
+
+/// A key, and the trees of the metas under it.
+pub type Group = (Text, List<Json>);
 
 type Groups = BTreeMap<Text, List<Json>>;
 
@@ -87,17 +90,21 @@ fn grouped(alloc: Global, mut held: Vec<Held>) -> Result<Groups, AllocError>
     Ok(groups)
 }
 
-// The member of a key, of its metas from the last on.
 fn metas_member(alloc: Global, key: Text, metas: List<Json>) -> Result<Member, AllocError>
-    ensures { IfOk result (λ m. m ≡ metas_member key (reverse metas)) }
+    ensures { IfOk result (λ m. m ≡ metas_member key metas) }
+{
+    let mut members = Vec::new(alloc);
+    members.push(member(alloc, "metas", Json::List(metas))?)?;
+    let value = Json::Object(List::new(members));
+    Ok(Member { name: key, value })
+}
+
+fn reversed(metas: List<Json>) -> List<Json>
+    ensures { result ≡ reverse metas }
 {
     let mut metas = metas.into_inner();
     metas.reverse();
-    let list = Json::List(List::new(metas));
-    let mut members = Vec::new(alloc);
-    members.push(member(alloc, "metas", list)?)?;
-    let value = Json::Object(List::new(members));
-    Ok(Member { name: key, value })
+    List::new(metas)
 }
 
 fn group_members(alloc: Global, mut groups: Groups) -> Result<Vec<Member>, AllocError>
@@ -106,17 +113,64 @@ fn group_members(alloc: Global, mut groups: Groups) -> Result<Vec<Member>, Alloc
 {
     let mut members = Vec::new(alloc);
     while let Some((key, metas)) = groups.pop_first() {
-        members.push(metas_member(alloc, key, metas)?)?;
+        members.push(metas_member(alloc, key, reversed(metas))?)?;
     }
     Ok(members)
 }
 
-/// The metas under each key, the keys in byte order.
-pub fn metas_tree(alloc: Global, held: Vec<Held>) -> Result<Json, AllocError>
+// The metas under each key, the keys in byte order.
+fn metas_tree(alloc: Global, held: Vec<Held>) -> Result<Json, AllocError>
     ensures { IfOk result (λ tree. tree ≡ metas_tree held.items) }
 {
     let groups = grouped(alloc, held)?;
     let members = group_members(alloc, groups)?;
+    Ok(Json::Object(List::new(members)))
+}
+
+// The last key with its metas, where it is this one, and else this one with none. What is answered is taken out.
+fn last_group(
+    alloc: Global,
+    groups: &mut Vec<Group>,
+    key: &Text,
+) -> Result<(Text, Vec<Json>), AllocError>
+    ensures { IfOk result (λ g. (meta : Json) → groups.new.items ++ (g.0, g.1.items ++ meta ∷ []) ∷ []
+        ≡ put_last (key.now, meta) groups.old.items) }
+{
+    match groups.pop() {
+        None => Ok((key.copy(alloc)?, Vec::new(alloc))),
+        Some((last, metas)) => {
+            if last.get() == key.get() {
+                return Ok((last, metas.into_inner()));
+            }
+            groups.push((last, metas))?;
+            Ok((key.copy(alloc)?, Vec::new(alloc)))
+        }
+    }
+}
+
+/// Puts the meta behind those of the last key, where it is under that, and else under a key of its own.
+pub fn put_last(
+    alloc: Global,
+    groups: &mut Vec<Group>,
+    key: &Text,
+    meta: Json,
+) -> Result<(), AllocError>
+    ensures { OnOk result (groups.new.items ≡ put_last (key.now, meta) groups.old.items) }
+{
+    let (key, mut metas) = last_group(alloc, groups, key)?;
+    metas.push(meta)?;
+    groups.push((key, List::new(metas)))?;
+    Ok(())
+}
+
+/// The metas under the keys of the list.
+pub fn groups_tree(alloc: Global, groups: Vec<Group>) -> Result<Json, AllocError>
+    ensures { IfOk result (λ tree. tree ≡ groups_tree groups.items) }
+{
+    let mut members = Vec::with_capacity(alloc, groups.len())?;
+    for (key, metas) in groups {
+        members.push(metas_member(alloc, key, metas)?)?;
+    }
     Ok(Json::Object(List::new(members)))
 }
 

@@ -2,3 +2,4 @@ pub mod Entries
 pub mod Pieces
 pub mod Parts
 pub mod Orderly
+pub mod Walk

@@ -11,4 +11,4 @@ mod part;
 mod parts;
 mod tree;
 
-pub use tree::Tree;
+pub use tree::{Entries, Tree};

@@ -10,7 +10,7 @@ use std::alloc::{AllocError, Global};
 use std::sync::Arc;
 
 // Where the key belongs: at the last part that does not begin above it, or else at the first part.
-fn place<K: Ord, V, C: Part<K, V>>(parts: &[C], key: &K) -> usize
+pub fn place<K: Ord, V, C: Part<K, V>>(parts: &[C], key: &K) -> usize
     requires { IsOrderly K.cmp C.entries C.is_fit parts.now }
     ensures within { result < length parts.now }
     ensures below { IsBelow K.cmp (flat_map C.entries (take result parts.now)) key.now }

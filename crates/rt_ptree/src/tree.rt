@@ -4,12 +4,15 @@ ghost use Rattle.std.specs.BTreeMap.{insert_entry};
 ghost use Rattle.rt_ptree.specs.Entries.{IsRising, Updates, value_at, entry_after, without_key, entry_lent};
 ghost use Rattle.rt_ptree.specs.Parts.{branch_list, IsFitBranch};
 
+mod walk;
+
 use crate::entry::Entry;
 use crate::node::Node;
 use crate::parts::{after_in, first_in, get_in, with_entry_in, without_in};
 use std::alloc::{AllocError, Global};
 use std::marker::Model;
 use std::sync::Arc;
+pub use walk::Entries;
 
 type Leaf<K, V> = Arc<Node<Entry<K, V>>>;
 
