@@ -290,6 +290,17 @@ fn edges_of_the_script(rt: HostRuntime) -> Result<(), Fail> {
     Ok(())
 }
 
+/// Puts a line of slot 0 behind a script, with another slot.
+fn put_on(script: &mut String, line: &str, slot: &str) -> Result<(), AllocError> {
+    if let Some((word, rest)) = line.split_once('0') {
+        script.push_str(word)?;
+        script.push_str(slot)?;
+        script.push_str(rest)?;
+        script.push_str("\n")?;
+    }
+    Ok(())
+}
+
 #[test]
 fn keys_and_slots(rt: HostRuntime) -> Result<(), Fail> {
     let alloc = rt.alloc();
@@ -304,15 +315,11 @@ fn keys_and_slots(rt: HostRuntime) -> Result<(), Fail> {
         (CATALOGUE, "255", WAL, Status::Ok),
         (CATALOGUE, "256", WAL, Status::NotBuilt),
     ] {
-        let opening = format!(in alloc;
-            "open {slot}{}",
-            OPEN.strip_prefix("open 0").unwrap_or("")
-        )?;
-        let frame = format!(in alloc;
-            "frame {slot}{}",
-            FRAME.strip_prefix("frame 0").unwrap_or("")
-        )?;
-        let script = script_of(alloc, [opening.as_str(), frame.as_str(), wal, "poll"])?;
+        let mut script = String::new(alloc);
+        put_on(&mut script, OPEN, slot)?;
+        put_on(&mut script, FRAME, slot)?;
+        script.push_str(wal)?;
+        script.push_str("\npoll\n")?;
         let catalogue = source(alloc, catalogue, &[])?;
         let script = source(alloc, script.as_str(), &[])?;
         let (got, out, _) = outcome(&rt, alloc, &REPLAY, catalogue, script, ROOM, &[])?;
