@@ -2,7 +2,7 @@
 use Rattle.std.proofs.Common.{◌≡◌, ◌≢◌, ℕ, Bool, true, false, List, [], ◌∷◌, codes, refl, ap, sym, ◌∙◌, arith}
 use Rattle.std.specs.Prelude.{slice_index}
 use Rattle.rt_first.specs.Messages.{shown_type}
-use Rattle.rt_first.specs.Statements.{AreNamed, AreStatements, column_words, columns_words, grant_words, key_place, key_words, role_words, table_words}
+use Rattle.rt_first.specs.Statements.{AreNamed, column_words, columns_words, grant_words, key_words, role_words, table_words}
 use Rattle.rt_first.specs.declared.catalogue.ColumnType.{ColumnType}
 use Rattle.rt_first.specs.declared.catalogue.ColumnType.TheVariants as t
 use Rattle.rt_first.specs.declared.catalogue.Column.{Column}

@@ -1,5 +1,5 @@
 -- What a status tells, from what the parts of a run tell.
-use Rattle.std.proofs.Common.{◌≡◌, ◌≢◌, ◌⊎◌, inl, inr, ℕ, List, [], ◌∷◌, Option, None, Some, codes, refl, ap, sym, subst, ◌∙◌, ◌<◌, ◌≤◌, length, arith}
+use Rattle.std.proofs.Common.{◌≡◌, ◌≢◌, inl, inr, ℕ, List, [], ◌∷◌, Some, codes, refl, sym, subst, ◌∙◌, ◌<◌, ◌≤◌, length, arith}
 use Rattle.std.specs.Prelude.{IfSome}
 use Rattle.rt_io.specs.Streams.{Puts}
 use Rattle.rt_io.specs.Whole.{PutsFront}
@@ -11,7 +11,7 @@ use Rattle.rt_first.specs.Script.{IsScript}
 use Rattle.rt_first.specs.Statements.{IsCatalogue}
 use Rattle.rt_first.specs.declared.catalogue.Catalogue.{Catalogue}
 use Rattle.rt_first.specs.declared.script.Script.{Script}
-use Rattle.realtime_replay.specs.Answers.{AreOfForm, Befell, Flow, Gave, HasCatalogue, HasFailed, HasNoCatalogue, HasNoScript, IsCalm, IsComplete, IsStatus, IsTooLong, IsUntouched, Means, Ran, RanInPart, RunTells, Tells, AllUntouched, due_bytes, most_bytes, no_command, not_built, runs}
+use Rattle.realtime_replay.specs.Answers.{AreOfForm, Befell, Flow, Gave, HasCatalogue, HasFailed, HasNoCatalogue, HasNoScript, IsCalm, IsComplete, IsTooLong, IsUntouched, Means, Ran, RanInPart, RunTells, Tells, due_bytes, most_bytes, no_command, not_built, runs}
 use Rattle.realtime_replay.specs.Faults.{of_form, status_of}
 use Rattle.realtime_replay.specs.Parts.{HasOne, HasScript, LacksScript, SourceTells}
 use Rattle.realtime_replay.specs.Words.{IsCommand, NoCommand}

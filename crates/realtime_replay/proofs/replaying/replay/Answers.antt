@@ -1,4 +1,4 @@
-use Rattle.realtime_replay.proofs.Tells.{complete, unbuilt, usage}
+use Rattle.realtime_replay.proofs.Tells.{complete, usage}
 use Rattle.realtime_replay.proofs.replaying.replay.Goals as goal
 
 pub returns-clause-others : goal.returns-clause-others
