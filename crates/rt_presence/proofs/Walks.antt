@@ -11,8 +11,7 @@ use Rattle.std.specs.Str.{bytes_eq}
 use Rattle.std.proofs.lemmas.Cmp.{nat_list_cmp_total, ranked, tied_itself}
 use Rattle.std.proofs.lemmas.Map.Lookups.{exact_bytes}
 use Rattle.std.proofs.lemmas.Slice.Eq.{bytes_eq-Decides}
-use Rattle.rt_ptree.specs.Entries.{IsRising}
-use Rattle.rt_ptree.specs.Walk.{entries_from}
+use Rattle.rt_presence.proofs.Entries.{IsRising, entries_from}
 use Rattle.rt_presence.specs.declared.tracks.Track.{Track}
 use Rattle.rt_presence.specs.Tracks.{Standing, track_cmp}
 use Rattle.rt_presence.specs.Index.{least_on}
