@@ -16,6 +16,10 @@ use Rattle.rt_presence.proofs.Entries.{IsRising, Updates, without_key}
 use Rattle.rt_presence.proofs.Plain.{AllOf, all_weaker}
 use Rattle.rt_presence.proofs.Orders.{track_exact, place_exact, is_eq_true, of_place, at_place, of_is, told}
 
+pub not_true : (b : Bool) → not b ≡ true → b ≡ false
+not_true true h = absurd (cc)
+not_true false h = refl
+
 kept : {A : Type 0} (D : A → Type 0) (x : A) (xs : List A) (b : Bool) → (b ≡ true → D x) → AllOf D xs → AllOf D (cond b (x ∷ xs) xs)
 kept D x xs true f a = (f refl, a)
 kept D x xs false f a = a
@@ -93,10 +97,6 @@ module _ (places : List (Place × Track)) (p : Place) where
   stays_found : (after : List (Place × Track)) (w : Option Track) → Updates place_cmp places after p w → (t : Standing) → here t ≡ false → Found places t → Found after t
   stays_found after w updates t away found =
       updates (place_of t.0) ∙ ap (λ b. cond b w (value_at place_cmp places (place_of t.0))) (of_is p t ∙ away) ∙ found
-
-  not_true : (b : Bool) → not b ≡ true → b ≡ false
-  not_true true h = absurd (cc)
-  not_true false h = refl
 
   -- without the place the tracks of others are found
   pub found_without : (after : List (Place × Track)) (tracks : List Standing) → Updates place_cmp places after p None → AllOf (Found places) tracks → AllOf (Found after) (filter (λ t. not (here t)) tracks)

@@ -47,7 +47,8 @@ module _ (t : Track) (j : Json) where
   abbrev new : Standing
   new = (t, j)
 
-  replaced_at : (u : Standing) (us : List Standing) (r : Ordering) → track_cmp t u.0 ≡ r → Below u.0 us → insert_entry track_cmp us t j ≡ put new (without_key track_cmp us t)
+  replaced_at : (u : Standing) (us : List Standing) (r : Ordering) → track_cmp t u.0 ≡ r → Below u.0 us
+      → insert_entry track_cmp us t j ≡ put new (without_key track_cmp us t)
       → match_ordering r (new ∷ u ∷ us) ((u.0, j) ∷ us) (u ∷ insert_entry track_cmp us t j) ≡ put new (cond (is_eq r) us (u ∷ without_key track_cmp us t))
   replaced_at u us Less e a h =
       ap (λ (ys : List Standing). new ∷ u ∷ ys) (sym (none_removed t us (below_more t u.0 us e a)))
@@ -71,7 +72,8 @@ module _ (t : Track) (j : Json) where
   back_at u us Less e none h = ap (λ b. cond b (u ∷ us) (new ∷ without_key track_cmp (u ∷ us) t)) (itself t)
   back_at u us Equal e none h = absurd (cc)
   back_at u us Greater e none h =
-      ap (λ r. cond (is_eq r) (insert_entry track_cmp us t j) (u ∷ without_key track_cmp (insert_entry track_cmp us t j) t)) e ∙ ap (λ (ys : List Standing). u ∷ ys) (h none)
+      ap (λ r. cond (is_eq r) (insert_entry track_cmp us t j) (u ∷ without_key track_cmp (insert_entry track_cmp us t j) t)) e
+      ∙ ap (λ (ys : List Standing). u ∷ ys) (h none)
 
   pub put_back : (tracks : List Standing) → value_at track_cmp tracks t ≡ None → without_key track_cmp (insert_entry track_cmp tracks t j) t ≡ tracks
   put_back [] none = ap (λ b. cond b [] (new ∷ [])) (itself t)
@@ -80,8 +82,10 @@ module _ (t : Track) (j : Json) where
 -- one is put in and another taken out, in whichever order
 
 module _ (f : Track) (t : Standing) (other : is_at (track_cmp f) t.0 ≡ false) where
-  removed_at : (u : Standing) (us : List Standing) (l b : Bool) → is_lt (track_cmp t.0 u.0) ≡ l → Below u.0 us → without_key track_cmp (put t us) f ≡ put t (without_key track_cmp us f)
-      → elim l [ true ↦ t ∷ cond b us (u ∷ without_key track_cmp us f) | false ↦ cond b (put t us) (u ∷ without_key track_cmp (put t us) f) ] ≡ put t (cond b us (u ∷ without_key track_cmp us f))
+  removed_at : (u : Standing) (us : List Standing) (l b : Bool) → is_lt (track_cmp t.0 u.0) ≡ l → Below u.0 us
+      → without_key track_cmp (put t us) f ≡ put t (without_key track_cmp us f)
+      → elim l [ true ↦ t ∷ cond b us (u ∷ without_key track_cmp us f) | false ↦ cond b (put t us) (u ∷ without_key track_cmp (put t us) f) ]
+      ≡ put t (cond b us (u ∷ without_key track_cmp us f))
   removed_at u us true true e a h = sym (put_first t us (below_more t.0 u.0 us (is_less _ e) a))
   removed_at u us true false e a h = ap (λ l. Put l t u (without_key track_cmp us f)) (sym e)
   removed_at u us false true e a h = refl

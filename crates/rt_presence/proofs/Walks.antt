@@ -88,10 +88,6 @@ pub told_true : (b : Bool) → not b ≡ false → b ≡ true
 told_true true h = refl
 told_true false h = absurd (cc)
 
-pub told_false : (b : Bool) → not b ≡ true → b ≡ false
-told_false true h = absurd (cc)
-told_false false h = refl
-
 not_first : (o p : Ordering) → is_le (ordering_then o p) ≡ true → o ≡ Greater → ⊥
 not_first Less p h e = cc
 not_first Equal p h e = cc

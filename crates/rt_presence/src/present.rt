@@ -51,7 +51,8 @@ impl Presence {
         }
     }
 
-    /// An equal value, of which a change leaves this one as it is. Copies every track. Fails for want of memory alone.
+    /// An equal value, of which a change leaves this one as it is. Copies every track with its tree, so its time is that of putting
+    /// in as many tracks. Fails for want of memory alone.
     pub fn copy(&self) -> Result<Self, AllocError>
         ensures { IfOk result (λ p. p ≡ self.now) }
     {

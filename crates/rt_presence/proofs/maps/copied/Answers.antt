@@ -11,7 +11,12 @@ loop-key-preserved g c =
     let v = c.in-Some.value.now in
     let behind = c.next.new.self in
     let all : es ++ (k, v) ∷ behind ≡ c.args.map.now.entries = ap (λ rest. es ++ rest) (sym c.in-Some.ensures.steps) ∙ c.loop-key.invariant in
-    let rising : IsRising cmp (es ++ (k, v) ∷ behind) = subst (λ all_of. IsRising cmp all_of) (sym all) c.into_iter-key-iterator.ensures.into_iter_gives.5 in
-    ap (λ ys. ys ++ behind) (c.in_ok-insert.ensures ∙ ap (λ x. insert_entry cmp es x c.in_ok-copied-2.field-0) c.in_ok-copied.ensures ∙ ap (λ x. insert_entry cmp es k x) c.in_ok-copied-2.ensures ∙ insert_last g.met.K.Ord.total k v behind es rising)
+    let ordered = c.into_iter-key-iterator.ensures.into_iter_gives.5 in
+    let rising : IsRising cmp (es ++ (k, v) ∷ behind) = subst (λ all_of. IsRising cmp all_of) (sym all) ordered in
+    let put : c.insert.new.map.entries ≡ insert_entry cmp es k v =
+    c.in_ok-insert.ensures
+    ∙ ap (λ x. insert_entry cmp es x c.in_ok-copied-2.field-0) c.in_ok-copied.ensures
+    ∙ ap (λ x. insert_entry cmp es k x) c.in_ok-copied-2.ensures in
+    ap (λ ys. ys ++ behind) (put ∙ insert_last g.met.K.Ord.total k v behind es rising)
     ∙ append_assoc es ((k, v) ∷ []) behind
     ∙ all

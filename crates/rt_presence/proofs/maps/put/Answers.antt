@@ -12,42 +12,52 @@ use Rattle.rt_presence.proofs.maps.put.Goals as goal
 pub returns-in-Ok-Some-clause-ok : goal.returns-in-Ok-Some-clause-ok
 returns-in-Ok-Some-clause-ok c =
     let done = c.in-Ok-Some.ensures in
-    again_is _ _ c.args.track c.args.tree c.requires.index c.insert.ensures.was_ordered _ done.entries done.updates.0 (ap is_some (sym done.old ∙ c.in-Ok-Some.field-0-is))
+    again_is _ _ c.args.track c.args.tree c.requires.index c.insert.ensures.was_ordered
+    _ done.entries done.updates.0 (ap is_some (sym done.old ∙ c.in-Ok-Some.field-0-is))
 
 pub returns-in-Ok-Some-clause-index : goal.returns-in-Ok-Some-clause-index
 returns-in-Ok-Some-clause-index c =
     let done = c.in-Ok-Some.ensures in
-    again_indexed _ _ c.args.track c.args.tree c.requires.index c.insert.ensures.was_ordered _ done.entries done.updates.0 (ap is_some (sym done.old ∙ c.in-Ok-Some.field-0-is))
+    again_indexed _ _ c.args.track c.args.tree c.requires.index c.insert.ensures.was_ordered
+    _ done.entries done.updates.0 (ap is_some (sym done.old ∙ c.in-Ok-Some.field-0-is))
 
 pub returns-in-Ok-None-insert-clause-ok : goal.returns-in-Ok-None-insert-clause-ok
 returns-in-Ok-None-insert-clause-ok c =
     let done = c.in-Ok-None.ensures in
     let placed = c.in-Ok-None-insert.ensures in
-    fresh_is _ _ c.args.track c.args.tree c.requires.index c.insert.ensures.was_ordered _ done.entries done.updates.0 (sym done.old ∙ c.in-Ok-None.field-0-is)
-    (ap (value_at place_cmp c.args.places.now.entries) (sym c.requires.place) ∙ sym placed.old ∙ c.in-Ok-None-insert.field-0-is)
+    let absent = sym done.old ∙ c.in-Ok-None.field-0-is in
+    let there = ap (value_at place_cmp c.args.places.now.entries) (sym c.requires.place) ∙ sym placed.old ∙ c.in-Ok-None-insert.field-0-is in
+    fresh_is _ _ c.args.track c.args.tree c.requires.index c.insert.ensures.was_ordered
+    _ done.entries done.updates.0 absent there
 
 pub returns-in-Ok-None-insert-clause-index : goal.returns-in-Ok-None-insert-clause-index
 returns-in-Ok-None-insert-clause-index c =
     let done = c.in-Ok-None.ensures in
     let placed = c.in-Ok-None-insert.ensures in
-    fresh_indexed _ _ c.args.track c.args.tree c.requires.index c.insert.ensures.was_ordered _ done.entries done.updates.0 (sym done.old ∙ c.in-Ok-None.field-0-is)
-    (ap (value_at place_cmp c.args.places.now.entries) (sym c.requires.place) ∙ sym placed.old ∙ c.in-Ok-None-insert.field-0-is)
-    _ (moved_to _ _ c.args.place c.args.track c.args.held c.requires.place c.requires.held placed.updates.0)
+    let absent = sym done.old ∙ c.in-Ok-None.field-0-is in
+    let there = ap (value_at place_cmp c.args.places.now.entries) (sym c.requires.place) ∙ sym placed.old ∙ c.in-Ok-None-insert.field-0-is in
+    fresh_indexed _ _ c.args.track c.args.tree c.requires.index c.insert.ensures.was_ordered
+    _ done.entries done.updates.0 absent there _
+    (moved_to _ _ c.args.place c.args.track c.args.held c.requires.place c.requires.held placed.updates.0)
 
 pub returns-in-Ok-Some-insert-clause-ok : goal.returns-in-Ok-Some-insert-clause-ok
 returns-in-Ok-Some-insert-clause-ok c =
     let done = c.in-Ok-None.ensures in
     let placed = c.in-Ok-Some-insert.ensures in
+    let absent = sym done.old ∙ c.in-Ok-None.field-0-is in
+    let there = ap (value_at place_cmp c.args.places.now.entries) (sym c.requires.place) ∙ sym placed.old ∙ c.in-Ok-Some-insert.field-0-is in
     c.remove.ensures.entries
-    ∙ moved_is _ _ c.args.track c.args.tree c.requires.index c.insert.ensures.was_ordered _ done.entries done.updates.0 (sym done.old ∙ c.in-Ok-None.field-0-is) c.in-Ok-Some-insert.former
-    (ap (value_at place_cmp c.args.places.now.entries) (sym c.requires.place) ∙ sym placed.old ∙ c.in-Ok-Some-insert.field-0-is)
+    ∙ moved_is _ _ c.args.track c.args.tree c.requires.index c.insert.ensures.was_ordered
+    _ done.entries done.updates.0 absent c.in-Ok-Some-insert.former there
 
 pub returns-in-Ok-Some-insert-clause-index : goal.returns-in-Ok-Some-insert-clause-index
 returns-in-Ok-Some-insert-clause-index c =
     let done = c.in-Ok-None.ensures in
     let placed = c.in-Ok-Some-insert.ensures in
-    moved_indexed _ _ c.args.track c.args.tree c.requires.index c.insert.ensures.was_ordered _ done.entries done.updates.0 (sym done.old ∙ c.in-Ok-None.field-0-is) c.in-Ok-Some-insert.former
-    (ap (value_at place_cmp c.args.places.now.entries) (sym c.requires.place) ∙ sym placed.old ∙ c.in-Ok-Some-insert.field-0-is)
+    let absent = sym done.old ∙ c.in-Ok-None.field-0-is in
+    let there = ap (value_at place_cmp c.args.places.now.entries) (sym c.requires.place) ∙ sym placed.old ∙ c.in-Ok-Some-insert.field-0-is in
+    moved_indexed _ _ c.args.track c.args.tree c.requires.index c.insert.ensures.was_ordered
+    _ done.entries done.updates.0 absent c.in-Ok-Some-insert.former there
     _ _ c.remove.ensures.entries c.remove.ensures.updates.0
     (moved_to _ _ c.args.place c.args.track c.args.held c.requires.place c.requires.held placed.updates.0)
 
@@ -55,8 +65,9 @@ pub returns-clause-err : goal.returns-clause-err
 returns-clause-err c =
     let tracks = c.args.tracks.now.entries in
     let done = c.in-Ok-None.ensures in
+    let same = ap (λ (pair : Place × Track). pair.1) c.in-Err-insert.ensures.value_returned ∙ c.requires.held in
     c.remove-in-Err-insert.ensures.entries
-    ∙ ap (λ (x : Track). without_key track_cmp c.insert.new.self.entries x) (ap (λ (pair : Place × Track). pair.1) c.in-Err-insert.ensures.value_returned ∙ c.requires.held)
+    ∙ ap (λ (x : Track). without_key track_cmp c.insert.new.self.entries x) same
     ∙ ap (λ (ts : List Standing). without_key track_cmp ts c.args.track) done.entries
     ∙ put_back c.args.track c.args.tree tracks (sym done.old ∙ c.in-Ok-None.field-0-is)
 

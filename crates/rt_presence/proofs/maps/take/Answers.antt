@@ -4,13 +4,13 @@ use Rattle.rt_presence.proofs.maps.take.Goals as goal
 
 pub returns-in-Some-clause-tracks : goal.returns-in-Some-clause-tracks
 returns-in-Some-clause-tracks c =
-    c.remove-in-Some.ensures.entries
-    ∙ take_is _ _ c.args.place.now c.requires c.in-Some.track (sym c.in-Some.ensures.value) c.len-len.ensures.ordered
+    let there = sym c.in-Some.ensures.value in
+    c.remove-in-Some.ensures.entries ∙ take_is _ _ c.args.place.now c.requires c.in-Some.track there c.len-len.ensures.ordered
 
 pub returns-in-Some-clause-index : goal.returns-in-Some-clause-index
 returns-in-Some-clause-index c =
-    take_indexed _ _ c.args.place.now c.requires c.in-Some.track (sym c.in-Some.ensures.value) _ _
-    (c.remove-in-Some.ensures.entries ∙ take_is _ _ c.args.place.now c.requires c.in-Some.track (sym c.in-Some.ensures.value) c.len-len.ensures.ordered)
+    let there = sym c.in-Some.ensures.value in
+    take_indexed _ _ c.args.place.now c.requires c.in-Some.track there _ _ (returns-in-Some-clause-tracks c)
     c.remove-in-Some.ensures.updates.0 c.remove.ensures.updates.0
 
 pub returns-in_default-clause-tracks : goal.returns-in_default-clause-tracks

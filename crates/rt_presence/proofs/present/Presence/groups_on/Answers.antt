@@ -7,7 +7,8 @@ use Rattle.rt_presence.specs.Tracks.{Standing, track_cmp}
 use Rattle.rt_presence.specs.Index.{least_on}
 use Rattle.rt_presence.specs.Trees.{shown, on_topic, put_last}
 use Rattle.rt_presence.proofs.Neighbours.{all_put, all_put_is}
-use Rattle.rt_presence.proofs.Walks.{Ahead, ahead_from, ahead_rest, on_from, goes_on, topic_ends, keys_rise, told_true, told_false}
+use Rattle.rt_presence.proofs.Walks.{Ahead, ahead_from, ahead_rest, on_from, goes_on, topic_ends, keys_rise, told_true}
+use Rattle.rt_presence.proofs.Places.{not_true}
 use Rattle.rt_presence.proofs.present.Presence.groups_on.Goals as goal
 use Rattle.rt_presence.proofs.present.Presence.groups_on.Goals.{in-None, in-Some+then-ne}
 
@@ -57,7 +58,7 @@ returns c =
       | in-Some+then-ne w ↦
           let here : Standing = (w.in-Some.track.now, w.in-Some.tree.now) in
           let off : bytes_eq w.in-Some.track.now.topic topic ≡ false =
-          ap (λ (xs : List ℕ). bytes_eq xs topic) (sym w.get.ensures.bytes) ∙ ap (bytes_eq w.get.result.now) (sym w.get-in-loop-track.ensures.bytes) ∙ told_false _ (sym w.ne.ensures ∙ w.if-ne.true) in
+          ap (λ (xs : List ℕ). bytes_eq xs topic) (sym w.get.ensures.bytes) ∙ ap (bytes_eq w.get.result.now) (sym w.get-in-loop-track.ensures.bytes) ∙ not_true _ (sym w.ne.ensures ∙ w.if-ne.true) in
           ap (on_topic topic) w.in-Some.ensures.steps ∙ topic_ends topic here c.next.new.self (subst (Ahead topic) w.in-Some.ensures.steps c.loop-track.invariant.ahead) off
     ] in
     ap (λ (ts : List Standing). all_put (map shown ts) groups) (sym over)
