@@ -19,7 +19,8 @@ use Rattle.rt_presence.proofs.Among.{Among, among_filter}
 use Rattle.rt_presence.proofs.Plain.{all_themselves, all_weaker, filter_alike, filter_map_swap, filter_and, filter_same, and_swap}
 use Rattle.rt_presence.proofs.Moves.{Moves, none, skip, swap, then_to, moves_same, moves_map, moves_filter, moves_back, moves_middle, permuted}
 use Rattle.rt_presence.proofs.Places.{none_found}
-use Rattle.rt_presence.proofs.Stands.{put_only, only_stay, Put, not_true, flip, same_bool}
+use Rattle.rt_presence.proofs.Stands.{put_only, only_stay, Put, flip, same_bool}
+use Rattle.rt_presence.proofs.Places.{not_true}
 use Rattle.rt_presence.proofs.ReadAgain.{read_again, reference_is, same_text, difference_read}
 
 abbrev IsSame : Standing → Standing → Bool

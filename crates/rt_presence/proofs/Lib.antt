@@ -1,5 +1,8 @@
+pub mod Entries
 pub mod Orders
 pub mod Places
+pub mod Puts
+pub mod Changes
 pub mod Walks
 pub mod Among
 pub mod Plain

@@ -1,6 +1,6 @@
 -- A channel's track among the tracks that are found by their places.
 use Rattle.std.proofs.Common.{◌≡◌, Bool, true, false, cond, not, List, [], ◌∷◌, Option, Some, None, option_map, refl, ap, sym, subst, ◌∙◌}
-use Rattle.std.specs.Prelude.{find, filter, IfSome, if◌then◌else◌}
+use Rattle.std.specs.Prelude.{find, filter, IfSome}
 use Rattle.std.specs.declared.cmp.Ordering.{Ordering}
 use Rattle.std.specs.declared.cmp.Ordering.TheVariants.{Less, Equal, Greater}
 use Rattle.std.specs.BTreeMap.{insert_entry, is_at}
@@ -8,13 +8,17 @@ use Rattle.std.specs.List.Sorted.{IsStrictlySortedBy}
 use Rattle.std.specs.Map.{keys_of}
 use Rattle.std.specs.Ordering.{is_eq, is_lt, match_ordering}
 use Rattle.rt_json.specs.declared.tree.Json.{Json}
-use Rattle.rt_ptree.specs.Entries.{IsRising, Updates, value_at, without_key}
 use Rattle.rt_presence.specs.declared.tracks.Track.{Track}
 use Rattle.rt_presence.specs.declared.tracks.Place.{Place}
-use Rattle.rt_presence.specs.Tracks.{Standing, track_cmp, place_cmp, is_of, put, track_of, without_channel}
-use Rattle.rt_presence.specs.Index.{IsIndexed, place_of}
+use Rattle.rt_presence.specs.Tracks.{Standing, track_cmp, place_cmp, is_of, put, track_of}
+use Rattle.rt_presence.specs.Index.{IsIndexed, place_of, value_at}
+use Rattle.rt_presence.proofs.Entries.{IsRising, Updates, without_key}
 use Rattle.rt_presence.proofs.Plain.{AllOf, all_weaker}
 use Rattle.rt_presence.proofs.Orders.{track_exact, place_exact, is_eq_true, of_place, at_place, of_is, told}
+
+pub not_true : (b : Bool) → not b ≡ true → b ≡ false
+not_true true h = absurd (cc)
+not_true false h = refl
 
 kept : {A : Type 0} (D : A → Type 0) (x : A) (xs : List A) (b : Bool) → (b ≡ true → D x) → AllOf D xs → AllOf D (cond b (x ∷ xs) xs)
 kept D x xs true f a = (f refl, a)
@@ -92,17 +96,13 @@ module _ (places : List (Place × Track)) (p : Place) where
 
   stays_found : (after : List (Place × Track)) (w : Option Track) → Updates place_cmp places after p w → (t : Standing) → here t ≡ false → Found places t → Found after t
   stays_found after w updates t away found =
-      updates (place_of t.0) ∙ ap (λ b. if b then w else value_at place_cmp places (place_of t.0)) (of_is p t ∙ away) ∙ found
-
-  not_true : (b : Bool) → not b ≡ true → b ≡ false
-  not_true true h = absurd (cc)
-  not_true false h = refl
+      updates (place_of t.0) ∙ ap (λ b. cond b w (value_at place_cmp places (place_of t.0))) (of_is p t ∙ away) ∙ found
 
   -- without the place the tracks of others are found
   pub found_without : (after : List (Place × Track)) (tracks : List Standing) → Updates place_cmp places after p None → AllOf (Found places) tracks → AllOf (Found after) (filter (λ t. not (here t)) tracks)
   found_without after tracks updates a = all_kept (λ t. not (here t)) (Found places) (Found after) tracks (λ t h f. stays_found after None updates t (not_true (here t) h) f) a
 
-  all_put : (D : Standing → Type 0) (t : Standing) (us : List Standing) → D t → AllOf D us → AllOf D (put t us)
+  pub all_put : (D : Standing → Type 0) (t : Standing) (us : List Standing) → D t → AllOf D us → AllOf D (put t us)
   all_put D t [] new a = (new, tt)
   all_put D t (u ∷ us) new a =
       elim (is_lt (track_cmp t.0 u.0)) as (λ b. AllOf D (elim b [ true ↦ t ∷ u ∷ us | false ↦ u ∷ put t us ])) [ true ↦ (new, a) | false ↦ (a.0, all_put D t us new a.1) ]
@@ -115,11 +115,11 @@ module _ (places : List (Place × Track)) (p : Place) where
       → AllOf (Found after) (put t tracks)
   found_with after t tracks own updates away a =
       all_put (Found after) t tracks
-      (updates (place_of t.0) ∙ ap (λ b. if b then Some t.0 else value_at place_cmp places (place_of t.0)) (of_is p t ∙ at_place p t own))
+      (updates (place_of t.0) ∙ ap (λ b. cond b (Some t.0) (value_at place_cmp places (place_of t.0))) (of_is p t ∙ at_place p t own))
       (both (λ u. here u ≡ false) (Found places) (Found after) tracks (λ u e f. stays_found after (Some t.0) updates u e f) away a)
 
   owned_at : (after : List (Place × Track)) (w : Option Track) (q : Place) (b : Bool) → is_at (place_cmp p) q ≡ b → IfSome w (λ t. place_of t ≡ p) → IfSome (value_at place_cmp places q) (λ t. place_of t ≡ q)
-      → IfSome (if b then w else value_at place_cmp places q) (λ t. place_of t ≡ q)
+      → IfSome (cond b w (value_at place_cmp places q)) (λ t. place_of t ≡ q)
   owned_at after w q true e new old = subst (λ (r : Place). IfSome w (λ t. place_of t ≡ r)) (place_exact p q (is_eq_true _ e)) new
   owned_at after w q false e new old = old
 
@@ -139,16 +139,9 @@ pub inserted_is : (t : Standing) (tracks : List Standing) → AllOf (λ u. is_eq
 inserted_is t [] a = refl
 inserted_is t (u ∷ us) a = put_at t u us (track_cmp t.0 u.0) a.0 (inserted_is t us a.1)
 
-differs : (p : Place) (t : Track) (u : Standing) (b : Bool) → is_eq (track_cmp t u.0) ≡ b → place_of t ≡ p → is_of p.topic p.channel u ≡ false → is_eq (track_cmp t u.0) ≡ false
-differs p t u true e own away = absurd (let h : false ≡ true = sym away ∙ at_place p u (ap place_of (sym (track_exact t u.0 (is_eq_true _ e))) ∙ own) in cc)
-differs p t u false e own away = e
-
-pub all_differ : (p : Place) (t : Track) (tracks : List Standing) → place_of t ≡ p → AllOf (λ u. is_of p.topic p.channel u ≡ false) tracks → AllOf (λ u. is_eq (track_cmp t u.0) ≡ false) tracks
-all_differ p t tracks own a = all_weaker (λ u. is_of p.topic p.channel u ≡ false) (λ u. is_eq (track_cmp t u.0) ≡ false) tracks (λ u e. differs p t u (is_eq (track_cmp t u.0)) refl own e) a
-
 -- the answers
 
-find_here : (places : List (Place × Track)) (tracks : List Standing) (p : Place) (t : Track) → IsIndexed tracks places → value_at place_cmp places p ≡ Some t → place_of t ≡ p
+pub find_here : (places : List (Place × Track)) (tracks : List Standing) (p : Place) (t : Track) → IsIndexed tracks places → value_at place_cmp places p ≡ Some t → place_of t ≡ p
 find_here places tracks p t index at = subst (λ (o : Option Track). IfSome o (λ x. place_of x ≡ p)) at (index.own p)
 
 module _ (tracks now : List Standing) (places : List (Place × Track)) (p : Place) (same : tracks ≡ now) (index : IsIndexed tracks places) where
@@ -160,57 +153,3 @@ module _ (tracks now : List Standing) (places : List (Place × Track)) (p : Plac
       let own = find_here places tracks p t index at in
       ap (λ x. option_map (λ (j : Json). let s : Standing = (t, j) in s) x) (sym value)
       ∙ sym (finds places p t tracks (all_told places p t tracks at own index.found)) ∙ ap (λ ts. track_of ts p.topic p.channel) same
-
-  pub without_nobody : value_at place_cmp places p ≡ None → now ≡ without_channel now p.topic p.channel
-  without_nobody none =
-      sym same ∙ sym (all_stay (here places p) tracks (nobody places p tracks none index.found)) ∙ ap (λ ts. without_channel ts p.topic p.channel) same
-
-  module _ (t : Track) (at : value_at place_cmp places p ≡ Some t) (tracks0 after : List Standing) (is : tracks0 ≡ tracks) (rising : IsRising track_cmp tracks0) (left : after ≡ without_key track_cmp tracks0 t) where
-    left_is : after ≡ without_channel tracks p.topic p.channel
-    left_is =
-        let rises : IsRising track_cmp tracks = subst (λ (ts : List Standing). IsRising track_cmp ts) is rising in
-        left ∙ ap (λ ts. without_key track_cmp ts t) is ∙ taken places p t tracks rises (all_told places p t tracks at (find_here places tracks p t index at) index.found)
-
-    pub without_is : after ≡ without_channel now p.topic p.channel
-    without_is = left_is ∙ ap (λ ts. without_channel ts p.topic p.channel) same
-
-    pub without_indexed : (places0 after_places : List (Place × Track)) → places0 ≡ places → Updates place_cmp places0 after_places p None → IsIndexed after after_places
-    without_indexed places0 after_places there updates =
-        let u : Updates place_cmp places after_places p None = subst (λ (ps : List (Place × Track)). Updates place_cmp ps after_places p None) there updates in
-        record {
-          found = subst (AllOf (Found after_places)) (sym left_is) (found_without places p after_places tracks u index.found);
-          own = owned places p after_places None u tt index.own;
-        }
-
-  module _ (t : Track) (tree : Json) (place : p ≡ place_of t) (absent : track_of now p.topic p.channel ≡ None) (k : Track) (j : Json) (key : k ≡ t) (value : j ≡ tree) (tracks0 after : List Standing) (is : tracks0 ≡ tracks) (put_in : after ≡ insert_entry track_cmp tracks0 k j) where
-    away : AllOf (λ u. here places p u ≡ false) tracks
-    away = none_found (here places p) tracks (ap (λ ts. track_of ts p.topic p.channel) same ∙ absent)
-
-    put_is : after ≡ put (t, tree) tracks
-    put_is =
-        put_in
-        ∙ ap (λ ts. insert_entry track_cmp ts k j) is
-        ∙ ap (λ x. insert_entry track_cmp tracks x j) key
-        ∙ ap (λ x. insert_entry track_cmp tracks t x) value
-        ∙ inserted_is (t, tree) tracks (all_differ p t tracks (sym place) away)
-
-    pub with_is : after ≡ put (t, tree) now
-    with_is = put_is ∙ ap (put (t, tree)) same
-
-    pub with_indexed : (q : Place) (u : Track) (places0 after_places : List (Place × Track)) → q ≡ p → u ≡ t → places0 ≡ places → Updates place_cmp places0 after_places q (Some u) → IsIndexed after after_places
-    with_indexed q u places0 after_places at_q is_u there updates =
-        let one : Updates place_cmp places after_places q (Some u) = subst (λ (ps : List (Place × Track)). Updates place_cmp ps after_places q (Some u)) there updates in
-        let two : Updates place_cmp places after_places p (Some u) = subst (λ (x : Place). Updates place_cmp places after_places x (Some u)) at_q one in
-        let three : Updates place_cmp places after_places p (Some t) = subst (λ (x : Track). Updates place_cmp places after_places p (Some x)) is_u two in
-        record {
-          found = subst (AllOf (Found after_places)) (sym put_is) (found_with places p after_places (t, tree) tracks (sym place) three away index.found);
-          own = owned places p after_places (Some t) three (sym place) index.own;
-        }
-
-none_kept : {A : Type 0} (p : A → Bool) (x : A) (xs : List A) (b : Bool) → p x ≡ b → find p (filter (λ y. not (p y)) xs) ≡ None → find p (cond (not b) (x ∷ filter (λ y. not (p y)) xs) (filter (λ y. not (p y)) xs)) ≡ None
-none_kept p x xs true e h = h
-none_kept p x xs false e h = ap (λ b. cond b (Some x) (find p (filter (λ y. not (p y)) xs))) e ∙ h
-
-pub none_left : {A : Type 0} (p : A → Bool) (xs : List A) → find p (filter (λ x. not (p x)) xs) ≡ None
-none_left p [] = refl
-none_left p (x ∷ xs) = none_kept p x xs (p x) refl (none_left p xs)

@@ -10,6 +10,7 @@ use Rattle.rt_presence.specs.Tracks.{Standing, track_cmp, is_of, put, without_ch
 use Rattle.rt_presence.specs.Index.{place_of}
 use Rattle.rt_presence.specs.Calls.{Call, tracks, ends, after_call, after_calls, is_by, Stands, CallsLeave}
 use Rattle.rt_presence.proofs.Orders.{of_place, at_place}
+use Rattle.rt_presence.proofs.Places.{not_true}
 use Rattle.rt_presence.proofs.Among.{Among, from_contains, to_contains, among_filter, filter_among}
 
 abbrev same : Standing → Standing → Bool
@@ -44,10 +45,6 @@ only_at t u x us false more (inr i) = back_in (more i)
 pub put_only : (t : Standing) (us : List Standing) (x : Standing) → Among (put t us) x → (t ≡ x) ⊎ Among us x
 put_only t [] x h = h
 put_only t (u ∷ us) x h = only_at t u x us (is_lt (track_cmp t.0 u.0)) (put_only t us x) h
-
-pub not_true : (b : Bool) → not b ≡ true → b ≡ false
-not_true true h = absurd (cc)
-not_true false h = refl
 
 or_false : (a b : Bool) → a ≡ false → b ≡ false → (a || b) ≡ false
 or_false true b e f = absurd (cc)

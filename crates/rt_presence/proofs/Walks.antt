@@ -11,8 +11,7 @@ use Rattle.std.specs.Str.{bytes_eq}
 use Rattle.std.proofs.lemmas.Cmp.{nat_list_cmp_total, ranked, tied_itself}
 use Rattle.std.proofs.lemmas.Map.Lookups.{exact_bytes}
 use Rattle.std.proofs.lemmas.Slice.Eq.{bytes_eq-Decides}
-use Rattle.rt_ptree.specs.Entries.{IsRising}
-use Rattle.rt_ptree.specs.Walk.{entries_from}
+use Rattle.rt_presence.proofs.Entries.{IsRising, entries_from}
 use Rattle.rt_presence.specs.declared.tracks.Track.{Track}
 use Rattle.rt_presence.specs.Tracks.{Standing, track_cmp}
 use Rattle.rt_presence.specs.Index.{least_on}
@@ -88,10 +87,6 @@ kept_rises p (u ∷ us) rising = elim (p u) as (λ b. IsRising track_cmp (cond b
 pub told_true : (b : Bool) → not b ≡ false → b ≡ true
 told_true true h = refl
 told_true false h = absurd (cc)
-
-pub told_false : (b : Bool) → not b ≡ true → b ≡ false
-told_false true h = absurd (cc)
-told_false false h = refl
 
 not_first : (o p : Ordering) → is_le (ordering_then o p) ≡ true → o ≡ Greater → ⊥
 not_first Less p h e = cc

@@ -3,6 +3,7 @@
 
 mod differences;
 pub mod laws;
+mod maps;
 mod present;
 #[cfg(test)]
 mod tests;

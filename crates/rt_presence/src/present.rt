@@ -1,28 +1,25 @@
 ghost use Rattle.std.specs.Prelude.{◌≡◌, [], None, Some, map, option_map, IfOk, OnOk, OnErr};
-ghost use Rattle.rt_presence.specs.Tracks.{track_of, without_channel, with_track, put, track_at, meta_of, joining, leaving};
-ghost use Rattle.std.specs.Arc.{arc_value};
-ghost use Rattle.std.specs.BTreeMap.{insert_entry};
-ghost use Rattle.rt_ptree.specs.Entries.{Updates};
-ghost use Rattle.rt_presence.specs.Index.{place_of, least_on};
+ghost use Rattle.rt_presence.specs.Tracks.{track_of, without_channel, with_track, track_at, meta_of, joining, leaving};
+ghost use Rattle.rt_presence.specs.Index.{least_on};
 ghost use Rattle.rt_presence.specs.Trees.{shown, on_topic, state_tree, groups_of};
 
 use crate::differences::{Diff, Meta};
+use crate::maps::{Copies, Places, Tracks, copied, put, take};
 use crate::tracks::{Place, Track};
 use crate::trees::{Group, groups_tree, meta_object, put_last};
 use rt_json::Json;
-use rt_ptree::Tree;
 use rt_value::Text;
 use std::alloc::{AllocError, Global};
+use std::collections::BTreeMap;
 use std::marker::Model;
-use std::sync::Arc;
 
 /// Who is present on each topic. A channel has at most one track on a topic.
 ///
 /// Contracts see the list of the tracks that stand, each with its tree, in their order.
 #[derive(Drop)]
 pub struct Presence {
-    tracks: Tree<Track, Json>,
-    places: Tree<Place, Track>,
+    tracks: Tracks,
+    places: Places,
     alloc: Global,
 }
 
@@ -37,24 +34,9 @@ impl Model for Presence {
 
     ghost coded = { Prim.hlevel (codes, tree.the_row.coded) };
 
-    ghost view = { λ p. p.tracks };
+    ghost view = { λ p. p.tracks.entries };
 
-    ghost invariant = { λ p. IsIndexed p.tracks p.places };
-}
-
-// Puts the entry in. After want of memory the map is as it was.
-fn insert<K: Ord + Drop, V: Drop>(
-    tree: &mut Tree<K, V>,
-    key: Arc<K>,
-    value: Arc<V>,
-) -> Result<(), AllocError>
-    ensures ok { OnOk result (tree.new ≡ insert_entry K.cmp tree.old (arc_value key) (arc_value value)) }
-    ensures updates { OnOk result (Updates K.cmp tree.old tree.new (arc_value key) (Some (arc_value value))) }
-{
-    match tree.insert(key, value) {
-        Ok(()) => Ok(()),
-        Err(_) => Err(AllocError),
-    }
+    ghost invariant = { λ p. IsIndexed p.tracks.entries p.places.entries };
 }
 
 impl Presence {
@@ -63,19 +45,20 @@ impl Presence {
         ensures { result ≡ [] }
     {
         Presence {
-            tracks: Tree::new(alloc),
-            places: Tree::new(alloc),
+            tracks: BTreeMap::new(alloc),
+            places: BTreeMap::new(alloc),
             alloc,
         }
     }
 
-    /// An equal value, of which a change leaves this one as it is. Fails for want of memory alone.
+    /// An equal value, of which a change leaves this one as it is. Copies every track with its tree, so its time is that of putting
+    /// in as many tracks. Fails for want of memory alone.
     pub fn copy(&self) -> Result<Self, AllocError>
         ensures { IfOk result (λ p. p ≡ self.now) }
     {
         Ok(Presence {
-            tracks: self.tracks.snapshot()?,
-            places: self.places.snapshot()?,
+            tracks: copied(self.alloc, &self.tracks)?,
+            places: copied(self.alloc, &self.places)?,
             alloc: self.alloc,
         })
     }
@@ -91,49 +74,6 @@ impl Presence {
                 Some(tree) => Some((track, tree)),
             },
         }
-    }
-
-    // Without the channel's track on the topic.
-    fn without(&self, place: &Place) -> Result<Self, AllocError>
-        ensures { IfOk result (λ p. p ≡ without_channel self.now place.now.topic place.now.channel) }
-    {
-        match self.places.get(place) {
-            None => self.copy(),
-            Some(track) => {
-                let mut tracks = self.tracks.snapshot()?;
-                let mut places = self.places.snapshot()?;
-                // A tree's count tells a proof that its keys rise.
-                let _count = tracks.len();
-                tracks.remove(track)?;
-                places.remove(place)?;
-                Ok(Presence {
-                    tracks,
-                    places,
-                    alloc: self.alloc,
-                })
-            }
-        }
-    }
-
-    // With a track of a channel that has none on the topic.
-    fn with(&self, place: Place, track: Track, tree: Json) -> Result<Self, AllocError>
-        requires place { place ≡ place_of track }
-        requires absent { track_of self.now place.topic place.channel ≡ None }
-        ensures { IfOk result (λ p. p ≡ put (track, tree) self.now) }
-    {
-        let mut tracks = self.tracks.snapshot()?;
-        let mut places = self.places.snapshot()?;
-        let track = Arc::new(self.alloc, track)?;
-        let shared = Arc::try_clone(&track)?;
-        let tree = Arc::new(self.alloc, tree)?;
-        insert(&mut tracks, track, tree)?;
-        let place = Arc::new(self.alloc, place)?;
-        insert(&mut places, place, shared)?;
-        Ok(Presence {
-            tracks,
-            places,
-            alloc: self.alloc,
-        })
     }
 
     fn place(&self, topic: &Text, channel: u32) -> Result<Place, AllocError>
@@ -213,8 +153,9 @@ impl Presence {
             reference,
             channel,
         };
+        let held = track.copied(self.alloc)?;
         let difference = self.joining(&place, &track, &tree)?;
-        *self = self.without(&place)?.with(place, track, tree)?;
+        put(&mut self.tracks, &mut self.places, place, track, held, tree)?;
         Ok(difference)
     }
 
@@ -231,7 +172,7 @@ impl Presence {
             None => None,
             Some((track, tree)) => Some(self.leaving(track, tree)?),
         };
-        *self = self.without(&place)?;
+        take(&mut self.tracks, &mut self.places, &place);
         Ok(difference)
     }
 
@@ -261,11 +202,9 @@ impl Presence {
     fn groups_on(&self, topic: &Text) -> Result<Vec<Group>, AllocError>
         ensures { IfOk result (λ groups. groups.items ≡ groups_of (map shown (on_topic topic.now self.now))) }
     {
-        // A tree's count tells a proof that its keys rise.
-        let _count = self.tracks.len();
         let least = self.least_on(topic)?;
         let mut groups = Vec::new(self.alloc);
-        for (track, tree) in self.tracks.entries_from(&least) {
+        for (track, tree) in self.tracks.range(&least..) {
             if track.topic.get() != topic.get() {
                 break;
             }

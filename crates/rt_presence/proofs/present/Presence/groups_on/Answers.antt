@@ -1,14 +1,14 @@
 use Rattle.std.proofs.Common.{◌≡◌, [], ℕ, List, map, ap, sym, subst, ◌∙◌, true, false}
 use Rattle.std.specs.Str.{bytes_eq}
 use Rattle.rt_json.specs.declared.tree.Json.{Json}
-use Rattle.rt_ptree.specs.Entries.{IsRising}
-use Rattle.rt_ptree.specs.Walk.{entries_from}
+use Rattle.rt_presence.proofs.Entries.{IsRising, entries_from, range_from}
 use Rattle.rt_presence.specs.declared.tracks.Track.{Track}
 use Rattle.rt_presence.specs.Tracks.{Standing, track_cmp}
 use Rattle.rt_presence.specs.Index.{least_on}
 use Rattle.rt_presence.specs.Trees.{shown, on_topic, put_last}
 use Rattle.rt_presence.proofs.Neighbours.{all_put, all_put_is}
-use Rattle.rt_presence.proofs.Walks.{Ahead, ahead_from, ahead_rest, on_from, goes_on, topic_ends, keys_rise, told_true, told_false}
+use Rattle.rt_presence.proofs.Walks.{Ahead, ahead_from, ahead_rest, on_from, goes_on, topic_ends, keys_rise, told_true}
+use Rattle.rt_presence.proofs.Places.{not_true}
 use Rattle.rt_presence.proofs.present.Presence.groups_on.Goals as goal
 use Rattle.rt_presence.proofs.present.Presence.groups_on.Goals.{in-None, in-Some+then-ne}
 
@@ -16,9 +16,9 @@ pub loop-track-init : goal.loop-track-init
 loop-track-init c =
     let now = c.args.self.now in
     let topic = c.args.topic.now in
-    let rising : IsRising track_cmp now = subst (λ (ts : List Standing). IsRising track_cmp ts) c.self.view_is c.len-count.ensures.rising in
+    let rising : IsRising track_cmp now = subst (λ (ts : List Standing). IsRising track_cmp ts) c.self.view_is c.range-track-items.ensures.ordered in
     let walk : c.into_iter-track-iterator.result ≡ entries_from track_cmp now (least_on topic) =
-    c.into_iter-track-iterator.ensures.into_iter_gives ∙ c.entries_from-track-items.ensures
+    c.into_iter-track-iterator.ensures.into_iter_gives ∙ c.range-track-items.ensures.between tt ∙ range_from track_cmp c.in_ok-least.least _
     ∙ ap (λ (ts : List Standing). entries_from track_cmp ts c.in_ok-least.least) c.self.view_is
     ∙ ap (λ (t : Track). entries_from track_cmp now t) c.in_ok-least.ensures in
     record {
@@ -52,13 +52,13 @@ returns c =
     let topic = c.args.topic.now in
     let left : List Standing = c.loop-track.track-iterator in
     let groups = c.loop-track.groups.items in
-    let rising : IsRising track_cmp now = subst (λ (ts : List Standing). IsRising track_cmp ts) c.self.view_is c.len-count.ensures.rising in
+    let rising : IsRising track_cmp now = subst (λ (ts : List Standing). IsRising track_cmp ts) c.self.view_is c.range-track-items.ensures.ordered in
     let over : on_topic topic left ≡ [] = elim c.match-next.branch [
       | in-None w ↦ ap (on_topic topic) w.in-None.ensures.steps.0
       | in-Some+then-ne w ↦
           let here : Standing = (w.in-Some.track.now, w.in-Some.tree.now) in
           let off : bytes_eq w.in-Some.track.now.topic topic ≡ false =
-          ap (λ (xs : List ℕ). bytes_eq xs topic) (sym w.get.ensures.bytes) ∙ ap (bytes_eq w.get.result.now) (sym w.get-in-loop-track.ensures.bytes) ∙ told_false _ (sym w.ne.ensures ∙ w.if-ne.true) in
+          ap (λ (xs : List ℕ). bytes_eq xs topic) (sym w.get.ensures.bytes) ∙ ap (bytes_eq w.get.result.now) (sym w.get-in-loop-track.ensures.bytes) ∙ not_true _ (sym w.ne.ensures ∙ w.if-ne.true) in
           ap (on_topic topic) w.in-Some.ensures.steps ∙ topic_ends topic here c.next.new.self (subst (Ahead topic) w.in-Some.ensures.steps c.loop-track.invariant.ahead) off
     ] in
     ap (λ (ts : List Standing). all_put (map shown ts) groups) (sym over)
