@@ -58,42 +58,42 @@ reach_is_shared tables =
 
 -- the caller's uuid is that of the second column
 abbrev pub owns : Who → Row → Bool
-owns who row = is_true (truth_in (worth_of_truth (compared Equal (uuid_or_null who.claims.sub) (cell_at row 1))))
+owns who outer = is_true (truth_in (worth_of_truth (compared Equal (uuid_or_null who.claims.sub) (cell_at outer 1))))
 
 module _ (who : Who) (view : View) where
   abbrev folded : Judge → Place → Value
   folded = worth who view
 
-  pub anyone_is : (row : Row) → is_true (truth who view anyone row) ≡ true
-  anyone_is row =
-      ap (λ (h : Place → Value). is_true (truth_in (h (record { outer = row; inner = None })))) (fold_literal (Place → Value) (worth_step who view) (value.Bool true))
+  pub anyone_is : (outer : Row) → is_true (truth who view anyone outer) ≡ true
+  anyone_is outer =
+      ap (λ (h : Place → Value). is_true (truth_in (h (record { outer = outer; inner = None })))) (fold_literal (Place → Value) (worth_step who view) (value.Bool true))
 
-  pub own_is : (row : Row) → is_true (truth who view own row) ≡ owns who row
-  own_is row =
-      let at : Place = record { outer = row; inner = None } in
+  pub own_is : (outer : Row) → is_true (truth who view own outer) ≡ owns who outer
+  own_is outer =
+      let at : Place = record { outer = outer; inner = None } in
       ap (λ (h : Place → Value). is_true (truth_in (h at))) (fold_compare (Place → Value) (worth_step who view) Equal judge.Uid (judge.Outer 1))
       ∙ ap (λ (f : Place → Value). is_true (truth_in (worth_of_truth (compared Equal (f at) (folded (judge.Outer 1) at))))) (fold_uid (Place → Value) (worth_step who view))
       ∙ ap (λ (f : Place → Value). is_true (truth_in (worth_of_truth (compared Equal (uuid_or_null who.claims.sub) (f at))))) (fold_outer (Place → Value) (worth_step who view) 1)
 
-  pub says_hi_is : (row : Row) → is_true (truth who view says_hi row) ≡ is_true (truth_in (worth_of_truth (compared Equal (cell_at row 1) (value.Text (codes "hi")))))
-  says_hi_is row =
-      let at : Place = record { outer = row; inner = None } in
+  pub says_hi_is : (outer : Row) → is_true (truth who view says_hi outer) ≡ is_true (truth_in (worth_of_truth (compared Equal (cell_at outer 1) (value.Text (codes "hi")))))
+  says_hi_is outer =
+      let at : Place = record { outer = outer; inner = None } in
       let hi : Judge = judge.Literal (value.Text (codes "hi")) in
       ap (λ (h : Place → Value). is_true (truth_in (h at))) (fold_compare (Place → Value) (worth_step who view) Equal (judge.Outer 1) hi)
       ∙ ap (λ (f : Place → Value). is_true (truth_in (worth_of_truth (compared Equal (f at) (folded hi at))))) (fold_outer (Place → Value) (worth_step who view) 1)
-      ∙ ap (λ (f : Place → Value). is_true (truth_in (worth_of_truth (compared Equal (cell_at row 1) (f at))))) (fold_literal (Place → Value) (worth_step who view) (value.Text (codes "hi")))
+      ∙ ap (λ (f : Place → Value). is_true (truth_in (worth_of_truth (compared Equal (cell_at outer 1) (f at))))) (fold_literal (Place → Value) (worth_step who view) (value.Text (codes "hi")))
 
   -- the inner row's first column is that of the row
   abbrev pub joins : Row → Row → Bool
-  joins row r = is_true (truth_in (worth_of_truth (compared Equal (cell_at r 0) (cell_at row 0))))
+  joins outer inner = is_true (truth_in (worth_of_truth (compared Equal (cell_at inner 0) (cell_at outer 0))))
 
   abbrev shown_with : Row → (Place → Value) → Bool
-  shown_with row condition = is_true (truth_in (value.Bool (list_any (shows view 1 row condition) (view.rows 1))))
+  shown_with outer condition = is_true (truth_in (value.Bool (list_any (shows view 1 outer condition) (view.rows 1))))
 
-  pub is_shared_is : (row : Row) → is_true (truth who view is_shared row) ≡ is_true (truth_in (value.Bool (list_any (λ r. view.sees 1 r && joins row r) (view.rows 1))))
-  is_shared_is row =
-      let at : Place = record { outer = row; inner = None } in
+  pub is_shared_is : (outer : Row) → is_true (truth who view is_shared outer) ≡ is_true (truth_in (value.Bool (list_any (λ inner. view.sees 1 inner && joins outer inner) (view.rows 1))))
+  is_shared_is outer =
+      let at : Place = record { outer = outer; inner = None } in
       ap (λ (h : Place → Value). is_true (truth_in (h at))) (fold_exists (Place → Value) (worth_step who view) 1 is_of_room)
-      ∙ ap (shown_with row) (fold_compare (Place → Value) (worth_step who view) Equal (judge.Inner 0) (judge.Outer 0))
-      ∙ ap (λ (f : Place → Value). shown_with row (λ p. worth_of_truth (compared Equal (f p) (folded (judge.Outer 0) p)))) (fold_inner (Place → Value) (worth_step who view) 0)
-      ∙ ap (λ (f : Place → Value). shown_with row (λ p. worth_of_truth (compared Equal (cell_of p.inner 0) (f p)))) (fold_outer (Place → Value) (worth_step who view) 0)
+      ∙ ap (shown_with outer) (fold_compare (Place → Value) (worth_step who view) Equal (judge.Inner 0) (judge.Outer 0))
+      ∙ ap (λ (f : Place → Value). shown_with outer (λ p. worth_of_truth (compared Equal (f p) (folded (judge.Outer 0) p)))) (fold_inner (Place → Value) (worth_step who view) 0)
+      ∙ ap (λ (f : Place → Value). shown_with outer (λ p. worth_of_truth (compared Equal (cell_of p.inner 0) (f p)))) (fold_outer (Place → Value) (worth_step who view) 0)
