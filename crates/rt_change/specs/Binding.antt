@@ -216,8 +216,12 @@ bound_at c r _ _ = Ok bound.Skip
 unfoldable pub change_of : Catalog → Record → Result Bound ChangeFault
 change_of c r = bound_at c r (table_named c r.schema r.table) (verb_of r.action)
 
+-- some record is this change
+abbrev pub IsBound : Catalog → Change → Type 0
+IsBound c ch = (r : Record) × (change_of c r ≡ Ok (bound.Change ch))
+
 -- some line of a stream is a record of this change
-pub record IsBound (c : Catalog) (ch : Change) : Type 0 where
+pub record IsOfLine (c : Catalog) (ch : Change) : Type 0 where
   pub line : List ℕ
   pub entry : Record
   pub is_record : IsRecord line entry

@@ -43,6 +43,10 @@ module _ (c : Catalog) (s : Settings) where
   abbrev pub CutsAreOwn : Type 0
   CutsAreOwn = (w : World) (x : Step) (slot : ℕ) → (((step_of c s w x).1.slots slot).cuts ≡ (w.slots slot).cuts) ⊎ IsOwnCut w x slot
 
+  -- after any list of steps an outbox holds at most as many messages as it can, so where a push cuts it holds exactly that many
+  abbrev pub OutboxesAreWithin : Type 0
+  OutboxesAreWithin = (steps : List Step) (slot : ℕ) → messages_in (outbox ((run c s steps start).slots slot)) ≤ s.capacity
+
   -- no other step changes what a slot was given
   abbrev pub OthersAreUntouched : Type 0
   OthersAreUntouched = (w : World) (x : Step) (slot : ℕ) → x ≢ Push slot → x ≢ Pop slot → IsUntouched w (step_of c s w x).1 slot
@@ -62,7 +66,7 @@ MayArrive (Frame slot bytes) = slot < slot_count
 MayArrive (Gone slot) = slot < slot_count
 MayArrive _ = ⊥
 
--- what may be fed, where m is the latest tick before: polls of changes that lines of a stream are bound to, ticks no earlier, a stop
+-- what may be fed, where m is the latest tick before: polls of changes that records are bound to, ticks no earlier, a stop
 abbrev pub MayFeed : Catalog → ℕ → Input → Type 0
 MayFeed c m (Poll changes) = All (IsBound c) changes
 MayFeed c m (Tick n) = m ≤ n

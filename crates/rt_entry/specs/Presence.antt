@@ -1,7 +1,7 @@
 -- The presence that a client holds (the Realtime protocol, "Presence"): the metas of a state, then of each difference its joins added and its
 -- leaves removed by `phx_ref`.
 use Rattle.std.specs.Prelude.{◌≡◌, ℕ, suc, ◌==◌, ◌<◌, ◌^◌, nat_le, Bool, true, false, not, ◌&&◌, List, [], ◌∷◌, ◌++◌, map, length, codes, Option, Some, None, count_by, unwrap_or, IsPermutation, Contains}
-use Rattle.std.specs.List.{filter, filter_map, flat_map, list_any}
+use Rattle.std.specs.List.{AllByRecursion, filter, filter_map, flat_map, list_any}
 use Rattle.std.specs.Str.{bytes_eq}
 use Rattle.rt_value.specs.Choice.{◌>>=◌, first_case}
 use Rattle.rt_json.specs.declared.tree.Json.{Json}
@@ -11,7 +11,7 @@ use Rattle.rt_json.specs.Lookup.{member_of, members_of}
 use Rattle.rt_json.specs.Trees.{text_of, list_of}
 use Rattle.rt_phx.specs.declared.message.Message.{Message}
 use Rattle.rt_phx.specs.declared.message.Version.{Version}
-use Rattle.rt_phx.specs.Frame.{no_members, message_of_tree}
+use Rattle.rt_phx.specs.Frame.{no_members, message_of_tree, spelled}
 use Rattle.rt_catalog.specs.declared.catalog.Catalog.{Catalog}
 use Rattle.rt_entry.specs.declared.input.Input.{Input}
 use Rattle.rt_entry.specs.declared.input.Settings.{Settings}
@@ -28,8 +28,7 @@ use Rattle.rt_entry.specs.Messages.{meta_tree}
 use Rattle.rt_entry.specs.Doings.{story}
 use Rattle.rt_entry.specs.Answers.{told, answers, due}
 use Rattle.rt_entry.specs.Machine.{World, is_message, start, run}
-use Rattle.rt_entry.specs.Headline.{AreAllowed}
-use Rattle.rt_entry.specs.Readable.{payload_levels, HasReadableNames}
+use Rattle.rt_entry.specs.Readable.{payload_levels, HasReadableNames, IsOfLines}
 
 -- a key and a meta under it
 abbrev pub Held : Type 0
@@ -86,15 +85,22 @@ module _ (c : Catalog) (s : Settings) where
   present_on journal topic = filter (λ t. bytes_eq t.topic topic) (present_at (story c s journal))
 
   -- Each member with presence holds what is present on its topic. A state is in key order and the tracks in journal order, so it is equal up to order.
-  -- A client takes metas away by `phx_ref`, the number of the track's input in decimal, and that tells numbers apart below 2 ^ 64: so the journal is
-  -- shorter (a hub takes 2 ^ 32 - 1 inputs).
-  abbrev pub ClientsAgree : List Input → Type 0
-  ClientsAgree journal =
-      length journal < 2 ^ 64 → (ch : Channel) → Contains (members_at (story c s journal)) ch → ch.presence ≡ true
+  abbrev pub ClientsHold : List Input → Type 0
+  ClientsHold journal =
+      (ch : Channel) → Contains (members_at (story c s journal)) ch → ch.presence ≡ true
       → IsPermutation (client_view [] (told_since ch journal)) (map shown_meta (present_on journal ch.topic))
 
--- The same of what a slot was given. A client reads the items behind the last terminator, by a reader of its own: what the server says may be longer and
--- nest deeper than a frame that the server reads.
+  -- A client takes metas away by `phx_ref`, the number of the track's input in decimal, and that tells numbers apart below 2 ^ 64: so the journal is
+  -- shorter.
+  abbrev pub ClientsAgree : List Input → Type 0
+  ClientsAgree journal = length journal < 2 ^ 64 → ClientsHold journal
+
+  -- So it is at each place of the journal that any steps make: there it is no longer than the limit on inputs, a number of 32 bits.
+  abbrev pub TakenClientsAgree : Type 0
+  TakenClientsAgree =
+      s.inputs < 2 ^ 32 → (steps : List Step) (later before : List Input) → (run c s steps start).journal ≡ later ++ before → ClientsHold before
+
+-- The same of what a slot was given of its last opening: the items behind the last terminator.
 abbrev pub end_count : List Item → ℕ
 end_count items = count_by (λ x. not (is_message x)) items
 
@@ -103,21 +109,16 @@ last_items [] = []
 last_items (End name ∷ more) = last_items more
 last_items (Said bytes ∷ more) = elim (end_count more == 0) [ true ↦ Said bytes ∷ more | false ↦ last_items more ]
 
--- it reads each text of the grammar whose lists and objects nest in at most so many levels
-pub record IsReader (levels : ℕ) (read : List ℕ → Option Json) : Type 0 where
-  pub reads : (bytes : List ℕ) (tree : Json) → IsWithin levels tree bytes → read bytes ≡ Some tree
-
-abbrev pub message_in : (List ℕ → Option Json) → Version → Item → Option Message
-message_in read version (Said bytes) = read bytes >>= message_of_tree version
-message_in read version (End name) = None
-
-abbrev pub messages_on : (List ℕ → Option Json) → Version → List ℕ → List Item → List Message
-messages_on read version topic items = filter (λ m. bytes_eq m.topic topic) (filter_map (message_in read version) items)
-
 abbrev pub said_by : Answer → Option Message
 said_by (Says m) = Some m
 said_by (Opened version) = None
 said_by (Ended name) = None
+
+abbrev pub as_items : Version → List Message → List Item
+as_items version ms = map (λ m. Said (spelled version m)) ms
+
+abbrev pub messages_to : Channel → List Message → List Message
+messages_to ch ms = filter (λ m. bytes_eq m.topic ch.topic) ms
 
 module _ (c : Catalog) (s : Settings) where
   -- what a channel's slot was told from its join on, on all topics
@@ -133,13 +134,41 @@ module _ (c : Catalog) (s : Settings) where
     pub opening : opening_at (story c s before) ch.slot ≡ Some o
     pub items : last_items (w.slots ch.slot).given ≡ last_items (due c s before ch.slot)
 
-  -- Then its client holds what is present, by any reader of its own that goes as deep as the server's messages: a message is a level around its payload.
-  -- The conditions are the caller's alone: on the steps, on the names of the catalogue, and on the limit of the journal, a number of 32 bits.
+  -- Then what it was given of the opening ends with all that it was told since the join, each message in the opening's spelling; and by these a client
+  -- holds what is present on the channel's topic, whatever it held before.
+  pub record HoldsPresent (w : World) (before : List Input) (ch : Channel) (o : Opening) : Type 0 where
+    pub front : List Item
+    pub given : last_items (w.slots ch.slot).given ≡ front ++ as_items o.version (said_since ch before)
+    pub holds : (held : List Held)
+        → IsPermutation (client_view held (messages_to ch (said_since ch before))) (map shown_meta (present_on c s before ch.topic))
+
   abbrev pub GivenClientsAgree : Type 0
   GivenClientsAgree =
+      s.inputs < 2 ^ 32
+      → (steps : List Step) (later before : List Input) (ch : Channel) (o : Opening)
+      → (run c s steps start).journal ≡ later ++ before → IsUpTo (run c s steps start) before ch o
+      → HoldsPresent (run c s steps start) before ch o
+
+-- The same by the bytes that a client reads, with a reader of its own: what the server says may be longer and nest deeper than a frame that the server
+-- reads. It reads each text of the grammar whose lists and objects nest in at most so many levels.
+pub record IsReader (levels : ℕ) (read : List ℕ → Option Json) : Type 0 where
+  pub reads : (bytes : List ℕ) (tree : Json) → IsWithin levels tree bytes → read bytes ≡ Some tree
+
+abbrev pub message_in : (List ℕ → Option Json) → Version → Item → Option Message
+message_in read version (Said bytes) = read bytes >>= message_of_tree version
+message_in read version (End name) = None
+
+abbrev pub messages_on : (List ℕ → Option Json) → Version → Channel → List Item → List Message
+messages_on read version ch items = messages_to ch (filter_map (message_in read version) items)
+
+module _ (c : Catalog) (s : Settings) where
+  -- Any reader that goes as deep as the server's messages (a message is a level around its payload) finds in what the slot was given what is present,
+  -- where the catalogue's names are UTF-8 and the changes are those of lines: else a text might be told that can't be read.
+  abbrev pub ReadersAgree : Type 0
+  ReadersAgree =
       HasReadableNames c → s.inputs < 2 ^ 32
       → (steps : List Step) (later before : List Input) (ch : Channel) (o : Opening) (read : List ℕ → Option Json)
-      → AreAllowed c s 0 steps → (run c s steps start).journal ≡ later ++ before → IsUpTo (run c s steps start) before ch o
+      → (run c s steps start).journal ≡ later ++ before → AllByRecursion (IsOfLines c) before → IsUpTo c s (run c s steps start) before ch o
       → IsReader (suc payload_levels) read
-      → IsPermutation (client_view [] (messages_on read o.version ch.topic (last_items ((run c s steps start).slots ch.slot).given)))
+      → IsPermutation (client_view [] (messages_on read o.version ch (last_items ((run c s steps start).slots ch.slot).given)))
       (map shown_meta (present_on c s before ch.topic))

@@ -1,5 +1,5 @@
 -- What a client can read: a message whose texts are UTF-8, whose numbers are numbers of the grammar, and whose payload nests only so deep.
-use Rattle.std.specs.Prelude.{ℕ, IsUtf8}
+use Rattle.std.specs.Prelude.{ℕ, All, IsUtf8, ⊤}
 use Rattle.std.specs.List.{AllByRecursion}
 use Rattle.rt_json.specs.Fits.{FitsWithin}
 use Rattle.rt_phx.specs.declared.message.Message.{Message}
@@ -7,6 +7,9 @@ use Rattle.rt_phx.specs.Fits.{IsRef}
 use Rattle.rt_catalog.specs.declared.catalog.Catalog.{Catalog}
 use Rattle.rt_catalog.specs.declared.catalog.Column.{Column}
 use Rattle.rt_catalog.specs.declared.catalog.Table.{Table}
+use Rattle.rt_change.specs.Binding.{IsOfLine}
+use Rattle.rt_entry.specs.declared.input.Input.{Input}
+use Rattle.rt_entry.specs.declared.input.Input.TheVariants.{Poll}
 
 pub record IsReadable (levels : ℕ) (m : Message) : Type 0 where
   pub join_ref : IsRef m.join_ref
@@ -33,3 +36,8 @@ pub record IsReadableTable (t : Table) : Type 0 where
 
 abbrev pub HasReadableNames : Catalog → Type 0
 HasReadableNames c = AllByRecursion IsReadableTable c.tables
+
+-- a poll's changes are each that of a line
+abbrev pub IsOfLines : Catalog → Input → Type 0
+IsOfLines c (Poll changes) = All (IsOfLine c) changes
+IsOfLines c _ = ⊤

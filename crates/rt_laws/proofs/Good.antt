@@ -1,7 +1,6 @@
 -- Every step keeps what holds of each lane and each slot.
-use Rattle.std.proofs.Common.{◌≡◌, ℕ, ◌+◌, ◌-◌, ◌≤◌, Bool, true, false, List, [], ◌∷◌, ◌++◌, length, take, drop, Option, Some, None, refl, sym, ap, subst, ◌∙◌, arith, length-append, inl, inr}
-use Rattle.std.specs.Prelude.{◌==◌, nat_lt, nat_le, ◌≢◌}
-use Rattle.std.specs.List.{filter}
+use Rattle.std.proofs.Common.{◌≡◌, ℕ, ◌+◌, ◌≤◌, false, List, [], ◌∷◌, ◌++◌, length, take, drop, refl, sym, ap, subst, ◌∙◌, arith, length-append, inl, inr}
+use Rattle.std.specs.Prelude.{◌==◌, ◌≢◌}
 use Rattle.std.proofs.lemmas.Bool.Decides.{eqb_tells}
 use Rattle.std.proofs.lemmas.List.{take-append-le, take-append-drop}
 use Rattle.std.proofs.Math.Seq.{take-length}
@@ -9,13 +8,13 @@ use Rattle.rt_catalog.specs.declared.catalog.Catalog.{Catalog}
 use Rattle.rt_entry.specs.declared.input.Input.{Input}
 use Rattle.rt_entry.specs.declared.input.Settings.{Settings}
 use Rattle.rt_entry.specs.declared.input.Step.{Step}
-use Rattle.rt_entry.specs.declared.input.Step.TheVariants.{Arrive, Feed, Take, TakeFeed, TakeClock, Send, Work, Push, Pop}
 use Rattle.rt_entry.specs.declared.answer.Item.{Item}
 use Rattle.rt_entry.specs.Answers.{Mark, marks_of, lane_marks, answers_of_marks, items_for, due, told}
-use Rattle.rt_entry.specs.Machine.{Cut, Slot, Lane, World, start, Placed, placed, shown, is_uncut, Outcome, done, empty, full, spent, rows_full, with_at, with_slot, with_lane, with_given, with_cut, outbox, slot_of, lane_of, worked_items, pending, rows_left, take_first, put_inlet, put_feed, put_clock, arrive, arrive_at, feed_with, is_tick, send, work, is_full_for, push, pop, step_of, run, IsAtRest}
+use Rattle.rt_entry.specs.Machine.{Cut, Slot, Lane, World, start, Placed, placed, shown, with_at, with_slot, with_lane, with_given, with_cut, lane_of, worked_items, pending, put_inlet, put_feed, put_clock, step_of, run, IsAtRest}
 use Rattle.rt_entry.specs.Headline.{IsPrefixOf, IsServed}
 use Rattle.rt_laws.proofs.Lists.{take_add}
-use Rattle.rt_laws.proofs.Given.{IsGiven, front_of, numbered, numbered_drop, Numbered, give, cut_short, more_items, given_prefix, given_all}
+use Rattle.rt_laws.proofs.Given.{IsGiven, Front, front_of, numbered, numbered_drop, Numbered, give, cut_short, more_items, given_prefix, given_all}
+use Rattle.rt_laws.proofs.Stepping.{one_sent, one_worked, one_popped, Keeps, step_keeps, run_keeps}
 use Rattle.rt_laws.proofs.Marks.{lane_due, lane_more, lane_none, no_marks, items_more}
 
 pub with_all : {A : Type 0} (P : ℕ → A → Type 0) (f : ℕ → A) (n : ℕ) (x : A) → P n x → ((m : ℕ) → P m (f m)) → (m : ℕ) → P m (with_at f n x m)
@@ -34,17 +33,6 @@ module _ (c : Catalog) (s : Settings) where
   abbrev Same : ℕ → World → ℕ → Lane → Type 0
   Same slot w m y = IsGiven (items_for slot (answers_of_marks c s (take y.worked (lane_marks c s w.journal m)))) (w.slots slot).given
       (w.slots slot).past (w.slots slot).cuts
-
-  abbrev Leads : Outcome × World → Type 0
-  Leads r = IsGood r.1
-
-  by_test : (b : Bool) (x y : Outcome × World) → (b ≡ true → Leads x) → (b ≡ false → Leads y) → Leads (elim b [ true ↦ x | false ↦ y ])
-  by_test true x y f g = f refl
-  by_test false x y f g = g refl
-
-  by_case : (b : Bool) (x y : Outcome × World) → Leads x → Leads y → Leads (elim b [ true ↦ x | false ↦ y ])
-  by_case true x y f g = f
-  by_case false x y f g = g
 
   slot_good : (w : World) (slot : ℕ) (x : Slot) → IsGood w → IsGiven (worked_items c s w slot) x.given x.past x.cuts → IsGood (with_slot w slot x)
   slot_good w slot x g h = record {
@@ -77,52 +65,21 @@ module _ (c : Catalog) (s : Settings) where
         subst P (sym same) (g.slots slot);
   }
 
-  input_good : (w rest : World) (i : Input) → IsGood w → IsGood rest → rest.journal ≡ w.journal
-      → Leads (elim (nat_le s.inputs (length w.journal)) [
-        | true ↦ (spent, w)
-        | false ↦ elim
-            (nat_lt s.rows (rows_left c s w.journal i)) [ true ↦ (rows_full, w) | false ↦ (done, record rest { journal = i ∷ w.journal }) ]
-      ])
-  input_good w rest i g r e =
-      let P : List Input → Type 0 = λ j. IsGood (record rest { journal = i ∷ j }) in
-      let next : IsGood (record rest { journal = i ∷ w.journal }) = subst P e (journal_good rest i r) in
-      by_case (nat_le s.inputs (length w.journal)) (spent, w)
-      (elim (nat_lt s.rows (rows_left c s w.journal i)) [ true ↦ (rows_full, w) | false ↦ (done, record rest { journal = i ∷ w.journal }) ]) g
-      (by_case (nat_lt s.rows (rows_left c s w.journal i)) (rows_full, w) (done, record rest { journal = i ∷ w.journal }) g next)
-
-  first_good : (w : World) (inputs : List Input) (put : List Input → World → World) → IsGood w → ((is : List Input) → IsGood (put is w))
-      → ((is : List Input) → (put is w).journal ≡ w.journal) → Leads (take_first c s w inputs put)
-  first_good w [] put g p e = g
-  first_good w (i ∷ rest) put g p e = input_good w (put rest w) i g (p rest) (e rest)
-
-  arrive_good : (w : World) (inputs : List Input) (put : List Input → World → World) (i : Input) → IsGood w → ((is : List Input) → IsGood (put is w))
-      → Leads (arrive c s w inputs put i)
-  arrive_good w inputs put i g p = by_case (nat_lt (length inputs) s.inlet) (done, put (inputs ++ i ∷ []) w) (full, w) (p (inputs ++ i ∷ [])) g
-
   inlet_good : (w : World) (slot : ℕ) (inputs : List Input) → IsGood w → IsGood (put_inlet slot inputs w)
   inlet_good w slot inputs g = slot_good w slot (record (w.slots slot) { inlet = inputs }) g (g.slots slot)
-
-  at_good : (w : World) (i : Input) (o : Option ℕ) → IsGood w → Leads (arrive_at c s w i o)
-  at_good w i None g = g
-  at_good w i (Some slot) g = arrive_good w (w.slots slot).inlet (put_inlet slot) i g (λ is. inlet_good w slot is g)
-
-  fed_good : (w : World) (i : Input) → IsGood w → Leads (feed_with c s w i)
-  fed_good w i g =
-      by_case (is_tick i) (arrive c s w w.clock put_clock i) (arrive c s w w.feed put_feed i)
-      (arrive_good w w.clock put_clock i g (λ is. clock_good w is g)) (arrive_good w w.feed put_feed i g (λ is. feed_good w is g))
 
   not_equal : (n m : ℕ) → (n == m) ≡ false → n ≢ m
   not_equal n m e h = elim (eqb_tells n m) [ inl t ↦ let k = t.0 in absurd (cc) | inr t ↦ t.1 h ]
 
   sent_good : (w : World) (l : ℕ) → IsGood w → ((w.lanes l).sent == length (lane_marks c s w.journal l)) ≡ false
-      → IsGood (with_lane w l (record (w.lanes l) { sent = (w.lanes l).sent + 1 }))
+      → IsGood (with_lane w l (one_sent (w.lanes l)))
   sent_good w l g e =
       let all = length (lane_marks c s w.journal l) in
       let ne = not_equal (w.lanes l).sent all e in
       let le = g.sent l in
       let less : (w.lanes l).sent + 1 ≤ all = omega arith in
       let under = g.worked l in
-      let x : Lane = record (w.lanes l) { sent = (w.lanes l).sent + 1 } in
+      let x = one_sent (w.lanes l) in
       record {
         worked = with_all (λ m y. y.worked ≤ y.sent) w.lanes l x (omega arith) g.worked;
         sent = with_all (λ m y. y.sent ≤ length (lane_marks c s w.journal m)) w.lanes l x less g.sent;
@@ -130,14 +87,7 @@ module _ (c : Catalog) (s : Settings) where
             λ slot. with_all (λ m y. Same slot w m (w.lanes m) → Same slot w m y) w.lanes l x (λ h. h) (λ m h. h) (lane_of c s slot) (g.slots slot);
       }
 
-  send_good : (w : World) (l : ℕ) → IsGood w → Leads (send c s w l (w.lanes l))
-  send_good w l g =
-      let x = w.lanes l in
-      by_test (x.sent == length (lane_marks c s w.journal l)) (empty, w)
-      (elim (x.sent - x.worked == s.lane) [ true ↦ (full, w) | false ↦ (done, with_lane w l (record x { sent = x.sent + 1 })) ])
-      (λ h. g) (λ h. by_case (x.sent - x.worked == s.lane) (full, w) (done, with_lane w l (record x { sent = x.sent + 1 })) g (sent_good w l g h))
-
-  more_worked : (w : World) (slot l : ℕ) → Same slot w l (w.lanes l) → Same slot w l (record (w.lanes l) { worked = (w.lanes l).worked + 1 })
+  more_worked : (w : World) (slot l : ℕ) → Same slot w l (w.lanes l) → Same slot w l (one_worked (w.lanes l))
   more_worked w slot l h =
       let marks = lane_marks c s w.journal l in
       let n = (w.lanes l).worked in
@@ -149,11 +99,11 @@ module _ (c : Catalog) (s : Settings) where
       (w.slots slot).cuts h)
 
   worked_good : (w : World) (l : ℕ) → IsGood w → ((w.lanes l).worked == (w.lanes l).sent) ≡ false
-      → IsGood (with_lane w l (record (w.lanes l) { worked = (w.lanes l).worked + 1 }))
+      → IsGood (with_lane w l (one_worked (w.lanes l)))
   worked_good w l g e =
       let ne = not_equal (w.lanes l).worked (w.lanes l).sent e in
       let le = g.worked l in
-      let x : Lane = record (w.lanes l) { worked = (w.lanes l).worked + 1 } in
+      let x = one_worked (w.lanes l) in
       record {
         worked = with_all (λ m y. y.worked ≤ y.sent) w.lanes l x (omega arith) g.worked;
         sent = with_all (λ m y. y.sent ≤ length (lane_marks c s w.journal m)) w.lanes l x (g.sent l) g.sent;
@@ -162,49 +112,54 @@ module _ (c : Catalog) (s : Settings) where
             (g.slots slot);
       }
 
-  work_good : (w : World) (l : ℕ) → IsGood w → Leads (work w l (w.lanes l))
-  work_good w l g =
-      by_test ((w.lanes l).worked == (w.lanes l).sent) (empty, w) (done, with_lane w l (record (w.lanes l) { worked = (w.lanes l).worked + 1 }))
-      (λ h. g) (λ h. worked_good w l g h)
+  pop_good : (w : World) (slot : ℕ) → IsGood w → IsGood (with_slot w slot (one_popped (w.slots slot)))
+  pop_good w slot g = slot_good w slot (one_popped (w.slots slot)) g (g.slots slot)
 
-  push_good : (w : World) (slot : ℕ) (ps : List Placed) → IsGood w
-      → filter (is_uncut (w.slots slot).cuts) (drop (w.slots slot).past (placed (worked_items c s w slot))) ≡ ps
-      → Leads (push c s w slot (w.slots slot) ps)
-  push_good w slot [] g e = g
-  push_good w slot (p ∷ ps) g e =
+  -- the front of what is pending
+  front_good : (w : World) (slot : ℕ) (p : Placed) (ps : List Placed) → IsGood w → pending c s w slot ≡ p ∷ ps
+      → Front (w.slots slot).past (w.slots slot).cuts (drop (w.slots slot).past (placed (worked_items c s w slot))) p
+  unfolding pending
+  front_good w slot p ps g e =
       let x = w.slots slot in
       let items = worked_items c s w slot in
-      let here = g.slots slot in
       let rest : Numbered x.past (drop x.past (placed items)) =
       let z : 0 + x.past ≡ x.past =
       omega arith in let P : ℕ → Type 0 = λ n. Numbered n (drop x.past (placed items)) in
       subst P z (numbered_drop 0 x.past (placed items) (numbered 0 0 items)) in
-      let f = front_of x.past x.cuts (drop x.past (placed items)) p ps here.before rest e in
+      front_of x.past x.cuts (drop x.past (placed items)) p ps (g.slots slot).before rest e
+
+  given_good : (w : World) (slot : ℕ) (p : Placed) (ps : List Placed) → IsGood w → pending c s w slot ≡ p ∷ ps
+      → IsGood (with_slot w slot (with_given (w.slots slot) p))
+  given_good w slot p ps g e =
+      let x = w.slots slot in
+      slot_good w slot (with_given x p) g (give (worked_items c s w slot) x.given x.past x.cuts p (g.slots slot) (front_good w slot p ps g e))
+
+  cut_good : (w : World) (slot : ℕ) (p : Placed) (ps : List Placed) → IsGood w → pending c s w slot ≡ p ∷ ps
+      → IsGood (with_slot w slot (with_cut (w.slots slot) p))
+  cut_good w slot p ps g e =
+      let x = w.slots slot in
       let k : Cut = record { opening = p.opening; place = p.place } in
-      by_case (is_full_for c s x p.item) (full, with_slot w slot (with_cut x p)) (done, with_slot w slot (with_given x p))
-      (slot_good w slot (with_cut x p) g (cut_short items x.given x.past x.cuts p k refl refl here f))
-      (slot_good w slot (with_given x p) g (give items x.given x.past x.cuts p here f))
+      slot_good w slot (with_cut x p) g
+      (cut_short (worked_items c s w slot) x.given x.past x.cuts p k refl refl (g.slots slot) (front_good w slot p ps g e))
 
-  pop_good : (w : World) (slot : ℕ) (is : List Item) → IsGood w → Leads (pop w slot (w.slots slot) is)
-  pop_good w slot [] g = g
-  pop_good w slot (i ∷ is) g = slot_good w slot (record (w.slots slot) { popped = (w.slots slot).popped + 1 }) g (g.slots slot)
+  good_keeps : Keeps c s IsGood
+  good_keeps = record {
+    inlet = inlet_good;
+    feed = feed_good;
+    clock = clock_good;
+    journal = λ w i g room. journal_good w i g;
+    sent = sent_good;
+    worked = worked_good;
+    given = λ w slot p ps g e room. given_good w slot p ps g e;
+    cut = λ w slot p ps g e full. cut_good w slot p ps g e;
+    popped = pop_good;
+  }
 
-  pub step_good : (w : World) (x : Step) → IsGood w → Leads (step_of c s w x)
-  unfolding step_of pending
-  step_good w (Arrive i) g = at_good w i (slot_of i) g
-  step_good w (Feed i) g = fed_good w i g
-  step_good w (Take slot) g = first_good w (w.slots slot).inlet (put_inlet slot) g (λ is. inlet_good w slot is g) (λ is. refl)
-  step_good w TakeFeed g = first_good w w.feed put_feed g (λ is. feed_good w is g) (λ is. refl)
-  step_good w TakeClock g = first_good w w.clock put_clock g (λ is. clock_good w is g) (λ is. refl)
-  step_good w (Send l) g = send_good w l g
-  step_good w (Work l) g = work_good w l g
-  step_good w (Push slot) g = push_good w slot (pending c s w slot) g refl
-  step_good w (Pop slot) g = pop_good w slot (outbox (w.slots slot)) g
+  pub step_good : (w : World) (x : Step) → IsGood w → IsGood (step_of c s w x).1
+  step_good w x g = step_keeps c s IsGood good_keeps w x g
 
   pub run_good : (xs : List Step) (w : World) → IsGood w → IsGood (run c s xs w)
-  unfolding run
-  run_good [] w g = g
-  run_good (x ∷ xs) w g = run_good xs (step_of c s w x).1 (step_good w x g)
+  run_good xs w g = run_keeps c s IsGood good_keeps xs w g
 
   none_given : (slot : ℕ) (items : List Item) → items ≡ [] → IsGiven items [] 0 []
   none_given slot items e = let P : List Item → Type 0 = λ is. IsGiven is [] 0 [] in

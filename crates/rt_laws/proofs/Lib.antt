@@ -14,6 +14,7 @@ pub mod Given
 pub mod Good
 pub mod Grows
 mod Hears
+mod Holding
 mod Incoming
 pub mod Journals
 mod Keys
@@ -35,10 +36,11 @@ mod Shaping
 mod Since
 pub mod Sound
 mod Starts
-mod Stocked
+pub mod Stepping
 mod Telling
 pub mod Texts
 mod Tracked
 mod Turns
 mod Unique
 pub mod Untouched
+mod Within

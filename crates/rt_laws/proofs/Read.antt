@@ -1,6 +1,6 @@
 -- What a client holds by what its slot was given.
-use Rattle.std.proofs.Common.{◌≡◌, ℕ, suc, ◌<◌, Bool, List, [], ◌∷◌, ◌++◌, map, length, Option, Some, None, refl, sym, ap, subst, ◌∙◌, arith, length-append, ◌+◌}
-use Rattle.std.specs.Prelude.{◌^◌, codes, unwrap_or, IsUtf8}
+use Rattle.std.proofs.Common.{◌≡◌, ℕ, suc, Bool, List, [], ◌∷◌, ◌++◌, map, Option, Some, None, refl, sym, ap, subst, ◌∙◌}
+use Rattle.std.specs.Prelude.{codes, unwrap_or, IsUtf8, IsPermutation}
 use Rattle.std.specs.List.{filter, filter_map, cons_option, AllByRecursion}
 use Rattle.std.specs.Str.{bytes_eq}
 use Rattle.std.proofs.lemmas.List.Elements.{filter-append, filter_map-append}
@@ -23,30 +23,22 @@ use Rattle.rt_catalog.specs.declared.catalog.Catalog.{Catalog}
 use Rattle.rt_entry.specs.declared.input.Input.{Input}
 use Rattle.rt_entry.specs.declared.input.Input.TheVariants as input
 use Rattle.rt_entry.specs.declared.input.Settings.{Settings}
-use Rattle.rt_entry.specs.declared.story.Opening.{Opening}
 use Rattle.rt_entry.specs.declared.story.Channel.{Channel}
 use Rattle.rt_entry.specs.declared.answer.Item.{Item}
 use Rattle.rt_entry.specs.declared.answer.Item.TheVariants as item
-use Rattle.rt_entry.specs.Story.{members_at}
-use Rattle.rt_entry.specs.Doings.{story}
 use Rattle.rt_entry.specs.Machine.{start, run}
-use Rattle.rt_entry.specs.Presence.{Held, after_message, client_view, shown_meta, present_on, told_since, last_items, message_in, messages_on, IsReader, said_since, GivenClientsAgree}
-use Rattle.rt_entry.specs.Headline.{MayArrive, MayFeed, MayTake}
-use Rattle.rt_entry.specs.Readable.{payload_levels, IsReadable}
-use Rattle.rt_laws.specs.Told.{CanBeTaken, AnswersAreReadable}
-use Rattle.rt_laws.proofs.Among.{from_contains}
+use Rattle.rt_entry.specs.Presence.{Held, after_message, client_view, shown_meta, present_on, last_items, as_items, messages_to, message_in, messages_on, IsReader, said_since, ReadersAgree}
+use Rattle.rt_entry.specs.Readable.{payload_levels, IsReadable, IsOfLines}
+use Rattle.rt_laws.specs.Told.{AnswersAreReadable}
 use Rattle.rt_laws.proofs.Plain.{AllOf, filter_map_swap}
 use Rattle.rt_laws.proofs.Fitting.{null_fits, text_fits, number_fits}
 use Rattle.rt_laws.proofs.Doing.{InputFits}
 use Rattle.rt_laws.proofs.Telling.{said_fits, answer_fits}
-use Rattle.rt_laws.proofs.Recorded.{all_bound}
-use Rattle.rt_laws.proofs.Stocked.{run_stocked, start_stocked}
-use Rattle.rt_laws.proofs.Moves.{Moves, permuted}
+use Rattle.rt_laws.proofs.Recorded.{all_of_lines}
+use Rattle.rt_laws.proofs.Holding.{short_before, given_agree}
 use Rattle.rt_laws.proofs.Metas.{list_items}
 use Rattle.rt_laws.proofs.Columns.{object_at}
 use Rattle.rt_laws.proofs.Turns.{view_append}
-use Rattle.rt_laws.proofs.Agree.{agrees}
-use Rattle.rt_laws.proofs.Since.{as_items, due_since, since_on}
 
 -- what is read of a message: version 1 doesn't write the join_ref
 abbrev read_as : Version → Message → Message
@@ -143,76 +135,44 @@ module _ (levels : ℕ) (read : List ℕ → Option Json) (reader : IsReader (su
       ap (λ (o : Option Message). cons_option o (filter_map (message_in read v) (as_items v ms))) (reads_one v m f.0)
       ∙ ap (λ (xs : List Message). read_as v m ∷ xs) (reads_all v ms f.1)
 
-  module _ (c : Catalog) (s : Settings) where
-    agrees_at : (given : List Item) (before : List Input) (ch : Channel) (o : Opening) (front : List Item) → length before < 2 ^ 64
-        → given ≡ front ++ as_items o.version (said_since c s ch before) → AllByRecursion (IsReadable levels) (said_since c s ch before)
-        → ((held : List Held) → Moves (client_view held (told_since c s ch before)) (map shown_meta (present_on c s before ch.topic)))
-        → Moves (client_view [] (messages_on read o.version ch.topic given)) (map shown_meta (present_on c s before ch.topic))
-    agrees_at given before ch o front short e readable agree =
-        let v = o.version in
-        let said = said_since c s ch before in
-        let on : Message → Bool = λ m. bytes_eq m.topic ch.topic in
-        let early = filter on (filter_map (message_in read v) front) in
-        let held = client_view [] early in
-        let heard : messages_on read v ch.topic given ≡ early ++ map (read_as v) (told_since c s ch before) =
-        ap (messages_on read v ch.topic) e
-        ∙ ap (filter on) (filter_map-append (message_in read v) front (as_items v said)
-        ∙ ap (λ (ms : List Message). filter_map (message_in read v) front ++ ms) (reads_all v said readable))
-        ∙ filter-append on (filter_map (message_in read v) front) (map (read_as v) said)
-        ∙ ap (λ (ms : List Message). early ++ ms) (same_topic v ch.topic said ∙ ap (map (read_as v)) (since_on c s ch before)) in
-        let is : client_view [] (messages_on read v ch.topic given) ≡ client_view held (told_since c s ch before) =
-        ap (client_view []) heard ∙ view_append [] early (map (read_as v) (told_since c s ch before)) ∙ same_view v held (told_since c s ch before) in
-        let P : List Held → Type 0 = λ x. Moves x (map shown_meta (present_on c s before ch.topic)) in
-        subst P (sym is) (agree held)
+  agrees_at : (given front : List Item) (said : List Message) (ch : Channel) (v : Version) (present : List Held) → given ≡ front ++ as_items v said
+      → AllByRecursion (IsReadable levels) said → ((held : List Held) → IsPermutation (client_view held (messages_to ch said)) present)
+      → IsPermutation (client_view [] (messages_on read v ch given)) present
+  agrees_at given front said ch v present e readable holds =
+      let on : Message → Bool = λ m. bytes_eq m.topic ch.topic in
+      let early = messages_to ch (filter_map (message_in read v) front) in
+      let held = client_view [] early in
+      let heard : messages_on read v ch given ≡ early ++ map (read_as v) (messages_to ch said) =
+      ap (messages_on read v ch) e
+      ∙ ap (messages_to ch) (filter_map-append (message_in read v) front (as_items v said)
+      ∙ ap (λ (ms : List Message). filter_map (message_in read v) front ++ ms) (reads_all v said readable))
+      ∙ filter-append on (filter_map (message_in read v) front) (map (read_as v) said)
+      ∙ ap (λ (ms : List Message). early ++ ms) (same_topic v ch.topic said) in
+      let is : client_view [] (messages_on read v ch given) ≡ client_view held (messages_to ch said) =
+      ap (client_view []) heard ∙ view_append [] early (map (read_as v) (messages_to ch said)) ∙ same_view v held (messages_to ch said) in
+      let P : List Held → Type 0 = λ x. IsPermutation x present in
+      subst P (sym is) (holds held)
 
-given_fits : (c : Catalog) (m : ℕ) (i : Input) → MayFeed c m i → InputFits i
-given_fits c m (input.Poll changes) may = all_bound c changes may
-given_fits c m (input.Tick n) may = tt
-given_fits c m input.Stop may = tt
-given_fits c m (input.Opened slot version claims) may = absurd may
-given_fits c m (input.Frame slot bytes) may = absurd may
-given_fits c m (input.Gone slot) may = absurd may
+-- changes of lines can be told
+lines_fit : (c : Catalog) (i : Input) → IsOfLines c i → InputFits i
+lines_fit c (input.Poll changes) lines = all_of_lines c changes lines
+lines_fit c (input.Opened slot version claims) lines = tt
+lines_fit c (input.Frame slot bytes) lines = tt
+lines_fit c (input.Gone slot) lines = tt
+lines_fit c (input.Tick n) lines = tt
+lines_fit c input.Stop lines = tt
 
-arrived_fits : (i : Input) → MayArrive i → InputFits i
-arrived_fits (input.Opened slot version claims) may = tt
-arrived_fits (input.Frame slot bytes) may = tt
-arrived_fits (input.Gone slot) may = tt
-arrived_fits (input.Poll changes) may = absurd may
-arrived_fits (input.Tick n) may = absurd may
-arrived_fits input.Stop may = absurd may
+all_lines_fit : (c : Catalog) (inputs : List Input) → AllByRecursion (IsOfLines c) inputs → AllOf InputFits inputs
+all_lines_fit c [] lines = tt
+all_lines_fit c (i ∷ inputs) lines = (lines_fit c i lines.0, all_lines_fit c inputs lines.1)
 
-taken_fits : (c : Catalog) (m : ℕ) (i : Input) → MayTake c m i → InputFits i
-taken_fits c m (input.Opened slot version claims) may = tt
-taken_fits c m (input.Frame slot bytes) may = tt
-taken_fits c m (input.Gone slot) may = tt
-taken_fits c m (input.Poll changes) may = given_fits c m (input.Poll changes) may
-taken_fits c m (input.Tick n) may = tt
-taken_fits c m input.Stop may = tt
-
-behind : {A : Type 0} (B : A → Type 0) (later before : List A) → AllOf B (later ++ before) → AllOf B before
-behind B [] before a = a
-behind B (x ∷ later) before a = behind B later before a.1
-
-pub given_agree : (c : Catalog) (s : Settings) → IsWritten payload_levels → GivenClientsAgree c s
-given_agree c s writes names few steps later before ch o read allowed taken u reader =
-    let w = run c s steps start in
-    let stocked = run_stocked c s InputFits arrived_fits (given_fits c) 0 steps start
-    (start_stocked c s InputFits arrived_fits (given_fits c)) allowed in
-    let all : AllOf InputFits (later ++ before) = subst (AllOf InputFits) taken stocked.journal in
-    let count = stocked.count in
-    let long : length w.journal ≡ length later + length before = ap length taken ∙ length-append later before in
-    let short : length before < 2 ^ 64 = omega arith in
-    let readable = said_fits c s names ch before short (behind InputFits later before all) in
-    let here = from_contains (members_at (story c s before)) ch u.member in
-    let d = due_since c s before ch o here u.opening in
-    permuted _ _
-    (agrees_at payload_levels read reader writes c s (last_items (w.slots ch.slot).given) before ch o d.0 short (u.items ∙ d.1) readable
-    (λ held. agrees c s before ch held short here u.enabled))
-
--- the inputs of a journal that may be taken
-all_taken : (c : Catalog) (inputs : List Input) → AllByRecursion (CanBeTaken c) inputs → AllOf InputFits inputs
-all_taken c [] a = tt
-all_taken c (i ∷ inputs) a = (taken_fits c a.0.0 i a.0.1, all_taken c inputs a.1)
+pub readers_agree : (c : Catalog) (s : Settings) → IsWritten payload_levels → ReadersAgree c s
+readers_agree c s writes names few steps later before ch o read taken lines u reader =
+    let h = given_agree c s few steps later before ch o taken u in
+    let short = short_before c s few steps later before taken in
+    agrees_at payload_levels read reader writes (last_items ((run c s steps start).slots ch.slot).given) h.front (said_since c s ch before) ch o.version
+    (map shown_meta (present_on c s before ch.topic)) h.given (said_fits c s names ch before short (all_lines_fit c before lines)) h.holds
 
 pub answers_readable : (c : Catalog) (s : Settings) → AnswersAreReadable c s
-answers_readable c s names before i slot m short may there = answer_fits c s names before i slot m short (all_taken c (i ∷ before) may) there
+answers_readable c s names before i slot m short lines there =
+    answer_fits c s names before i slot m short (all_lines_fit c (i ∷ before) lines) there

@@ -27,7 +27,7 @@ use Rattle.rt_change.specs.declared.change.Bound.TheVariants as bound
 use Rattle.rt_change.specs.declared.fault.ChangeFault.{ChangeFault}
 use Rattle.rt_change.specs.declared.fault.ChangeFault.TheVariants.{KeyDiffers}
 use Rattle.rt_change.specs.Binding as binding
-use Rattle.rt_change.specs.Binding.{IsBound, or_fault, tree_for, fields_fit, trees_for, cells_for, verb_of, keys_differ, key_given, new_fields, old_fields, used, change_with, bound_to, bound_at, change_of}
+use Rattle.rt_change.specs.Binding.{IsOfLine, or_fault, tree_for, fields_fit, trees_for, cells_for, verb_of, keys_differ, key_given, new_fields, old_fields, used, change_with, bound_to, bound_at, change_of}
 use Rattle.rt_laws.proofs.Plain.{AllOf, all_append, all_map, Maybe, find_of}
 use Rattle.rt_laws.proofs.Fitting.{read_fits, member_fits_in}
 use Rattle.rt_laws.proofs.Moments.{moment_utf8}
@@ -197,13 +197,13 @@ module _ (r : Record) (f : FieldsFit r) (moment : Maybe IsUtf8 r.moment) where
   unfolding change_of
   given_fits c ch e = subst BoundFits e (at_fits c (table_named c r.schema r.table) (verb_of r.action))
 
-pub bound_fit : (c : Catalog) (ch : Change) → IsBound c ch → ChangeFits ch
-bound_fit c ch b =
+line_fits : (c : Catalog) (ch : Change) → IsOfLine c ch → ChangeFits ch
+line_fits c ch b =
     let text = content_of b.line in
     let is = b.is_record in
     let fields = record_fits (length text) is.tree (record b.entry { moment = None }) (read_fits 64 is.tree text is.is_json) is.shape in
     given_fits b.entry (record { columns = fields.columns; identity = fields.identity }) (time_fits is.tree b.entry.moment is.time) c ch b.gives
 
-pub all_bound : (c : Catalog) (changes : List Change) → All (IsBound c) changes → AllOf ChangeFits changes
-all_bound c [] a = tt
-all_bound c (ch ∷ changes) a = (bound_fit c ch (a 0 ch (omega arith)), all_bound c changes (λ k d lt. a (suc k) d (omega arith)))
+pub all_of_lines : (c : Catalog) (changes : List Change) → All (IsOfLine c) changes → AllOf ChangeFits changes
+all_of_lines c [] a = tt
+all_of_lines c (ch ∷ changes) a = (line_fits c ch (a 0 ch (omega arith)), all_of_lines c changes (λ k d lt. a (suc k) d (omega arith)))

@@ -26,7 +26,7 @@ use Rattle.rt_entry.specs.Story.{heard_in, opened_after, opening_at, moment_at, 
 use Rattle.rt_entry.specs.Doings.{story}
 use Rattle.rt_entry.specs.Machine.{is_message}
 use Rattle.rt_entry.specs.Answers.{Answers, answer_of, at_slot, told, spell, answers_by, answers, all_answers, due}
-use Rattle.rt_entry.specs.Presence.{said_to, said_by, said_since, told_since, end_count, last_items}
+use Rattle.rt_entry.specs.Presence.{said_to, said_by, said_since, told_since, as_items, end_count, last_items}
 use Rattle.rt_laws.specs.After.{done_by}
 use Rattle.rt_laws.specs.Departures.{heard}
 use Rattle.rt_laws.proofs.Among.{Among}
@@ -44,9 +44,6 @@ version_after v (a.Ended name ∷ rest) = version_after v rest
 
 abbrev pub as_said : List Message → List Answer
 as_said ms = map (λ (m : Message). a.Says m) ms
-
-abbrev pub as_items : Version → List Message → List Item
-as_items v ms = map (λ (m : Message). item.Message (spelled v m)) ms
 
 pub spell_said : (v : Version) (xs : List Answer) (ms : List Message) → spell v (xs ++ as_said ms) ≡ spell v xs ++ as_items (version_after v xs) ms
 spell_said v [] [] = refl

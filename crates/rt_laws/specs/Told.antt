@@ -7,18 +7,13 @@ use Rattle.rt_entry.specs.declared.input.Input.{Input}
 use Rattle.rt_entry.specs.declared.input.Settings.{Settings}
 use Rattle.rt_entry.specs.declared.answer.Answer.TheVariants.{Says}
 use Rattle.rt_entry.specs.Answers.{answers}
-use Rattle.rt_entry.specs.Headline.{MayTake}
-use Rattle.rt_entry.specs.Readable.{payload_levels, IsReadable, HasReadableNames}
-
--- a journal may take the input, behind some latest tick
-abbrev pub CanBeTaken : Catalog → Input → Type 0
-CanBeTaken c i = (m : ℕ) × MayTake c m i
+use Rattle.rt_entry.specs.Readable.{payload_levels, IsReadable, HasReadableNames, IsOfLines}
 
 module _ (c : Catalog) (s : Settings) where
-  -- where the catalogue's names are UTF-8, and the inputs may be taken: so each change was bound of a line's record, and frames may be any bytes
+  -- where the catalogue's names are UTF-8 and each change was bound of a line's record; frames may be any bytes
   abbrev pub AnswersAreReadable : Type 0
   AnswersAreReadable =
       HasReadableNames c
       → (before : List Input) (i : Input) (slot : ℕ) (m : Message)
-      → length before < 2 ^ 64 → AllByRecursion (CanBeTaken c) (i ∷ before) → Contains (answers c s before i) (slot, Says m)
+      → length before < 2 ^ 64 → AllByRecursion (IsOfLines c) (i ∷ before) → Contains (answers c s before i) (slot, Says m)
       → IsReadable payload_levels m

@@ -12,7 +12,7 @@ pub use access::{changes_are_allowed, given_is_allowed, verdicts_are_one};
 pub use lanes::{entries_give, lanes_fan_out, marks_stay};
 pub use presence::{
     answers_are_readable, clients_agree, clients_follow, departures_are_told, given_clients_agree,
-    states_are_read,
+    readers_agree, states_are_read, taken_clients_agree,
 };
 pub use serving::{serves_all, uncut_is_due};
 pub use steps::{cuts_are_own, others_are_untouched, push_keeps_the_rest};

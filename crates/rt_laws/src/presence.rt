@@ -2,7 +2,7 @@ ghost use Rattle.std.specs.Prelude.{List};
 ghost use Rattle.rt_catalog.specs.declared.catalog.Catalog.{Catalog as CatalogData};
 ghost use Rattle.rt_entry.specs.declared.input.Settings.{Settings as SettingsData};
 ghost use Rattle.rt_entry.specs.declared.input.Input.{Input as InputData};
-ghost use Rattle.rt_entry.specs.Presence.{ClientsAgree, GivenClientsAgree};
+ghost use Rattle.rt_entry.specs.Presence.{ClientsAgree, GivenClientsAgree, ReadersAgree, TakenClientsAgree};
 ghost use Rattle.rt_laws.specs.Departures.{DeparturesAreTold};
 ghost use Rattle.rt_laws.specs.Follows.{ClientsFollow};
 ghost use Rattle.rt_laws.specs.Told.{AnswersAreReadable};
@@ -25,21 +25,31 @@ pub fn clients_follow()
     ensures { (c : CatalogData) (s : SettingsData) → ClientsFollow c s }
 {}
 
-/// After any journal, each member with presence enabled holds, by its presence state and the later differences that it was told, what is present on its
-/// topic, up to order.
+/// After any journal shorter than 2^64, each member with presence enabled holds, by its presence state and the later differences that it was told, what is
+/// present on its topic, up to order.
 pub fn clients_agree()
     ensures { (c : CatalogData) (s : SettingsData) (journal : List InputData) → ClientsAgree c s journal }
 {}
 
-/// Where the catalogue's names are UTF-8 and a journal's inputs may be taken, every message that they answer can be read: its texts are UTF-8, its
-/// numbers are numbers of the grammar, and its payload nests in at most 66 levels.
+/// So it is at each place of the journal that any steps make.
+pub fn taken_clients_agree()
+    ensures { (c : CatalogData) (s : SettingsData) → TakenClientsAgree c s }
+{}
+
+/// The same of what a slot was given after any steps: where that is, of the slot's opening, exactly what is due by the inputs so far, it ends with all that
+/// the slot was told since the join of a member with presence enabled, spelled; and by these messages a client holds what is present on its topic, whatever
+/// it held before.
+pub fn given_clients_agree()
+    ensures { (c : CatalogData) (s : SettingsData) → GivenClientsAgree c s }
+{}
+
+/// Where the catalogue's names are UTF-8 and a journal's changes are those of lines, every message that its inputs answer can be read: its texts are UTF-8,
+/// its numbers are numbers of the grammar, and its payload nests in at most 66 levels.
 pub fn answers_are_readable()
     ensures { (c : CatalogData) (s : SettingsData) → AnswersAreReadable c s }
 {}
 
-/// The same of what a slot was given after any list of steps that meets the caller's conditions, where the catalogue's names are UTF-8: where that is, of
-/// the slot's opening, exactly what is due by the inputs so far, its client holds what is present on the topic of each member with presence enabled, by
-/// whatever reader of its own goes 67 levels deep.
-pub fn given_clients_agree()
-    ensures { (c : CatalogData) (s : SettingsData) → GivenClientsAgree c s }
+/// There a client holds what is present by the very bytes that its slot was given, with whatever reader of its own goes 67 levels deep.
+pub fn readers_agree()
+    ensures { (c : CatalogData) (s : SettingsData) → ReadersAgree c s }
 {}

@@ -1,8 +1,5 @@
-use Rattle.rt_json.proofs.Back.{json_written}
-use Rattle.rt_entry.specs.Readable.{payload_levels}
-use Rattle.std.proofs.Common.{suc}
-use Rattle.rt_laws.proofs.Read.{given_agree}
+use Rattle.rt_laws.proofs.Holding.{given_agree}
 use Rattle.rt_laws.proofs.presence.given_clients_agree.Goals as goal
 
 pub returns : goal.returns
-returns k c s = given_agree c s (record { text = json_written (suc payload_levels) })
+returns c = given_agree

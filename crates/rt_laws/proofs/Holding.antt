@@ -1,0 +1,42 @@
+-- What clients hold at the places of a run, by what they were told and by what their slots were given.
+use Rattle.std.proofs.Common.{◌≡◌, ◌+◌, ◌<◌, List, ◌++◌, map, length, sym, ap, subst, ◌∙◌, arith, length-append}
+use Rattle.std.specs.Prelude.{◌^◌, IsPermutation}
+use Rattle.rt_phx.specs.declared.message.Message.{Message}
+use Rattle.rt_catalog.specs.declared.catalog.Catalog.{Catalog}
+use Rattle.rt_entry.specs.declared.input.Input.{Input}
+use Rattle.rt_entry.specs.declared.input.Settings.{Settings}
+use Rattle.rt_entry.specs.declared.input.Step.{Step}
+use Rattle.rt_entry.specs.Story.{members_at}
+use Rattle.rt_entry.specs.Doings.{story}
+use Rattle.rt_entry.specs.Machine.{start, run}
+use Rattle.rt_entry.specs.Presence.{client_view, shown_meta, present_on, TakenClientsAgree, GivenClientsAgree}
+use Rattle.rt_laws.proofs.Among.{from_contains}
+use Rattle.rt_laws.proofs.Moves.{permuted}
+use Rattle.rt_laws.proofs.Agree.{agrees, clients_agree}
+use Rattle.rt_laws.proofs.Since.{due_since, since_on}
+use Rattle.rt_laws.proofs.Within.{journal_within}
+
+module _ (c : Catalog) (s : Settings) where
+  pub short_before : s.inputs < 2 ^ 32 → (steps : List Step) (later before : List Input) → (run c s steps start).journal ≡ later ++ before
+      → length before < 2 ^ 64
+  short_before few steps later before taken =
+      let within = journal_within c s steps in
+      let long : length (run c s steps start).journal ≡ length later + length before = ap length taken ∙ length-append later before in
+      omega arith
+
+  pub taken_agree : TakenClientsAgree c s
+  taken_agree few steps later before taken = clients_agree c s before (short_before few steps later before taken)
+
+  pub given_agree : GivenClientsAgree c s
+  given_agree few steps later before ch o taken u =
+      let short = short_before few steps later before taken in
+      let here = from_contains (members_at (story c s before)) ch u.member in
+      let d = due_since c s before ch o here u.opening in
+      let present = map shown_meta (present_on c s before ch.topic) in
+      record {
+        front = d.0;
+        given = u.items ∙ d.1;
+        holds = λ held.
+            let P : List Message → Type 0 = λ ms. IsPermutation (client_view held ms) present in
+            subst P (sym (since_on c s ch before)) (permuted _ _ (agrees c s before ch held short here u.enabled));
+      }
