@@ -11,7 +11,7 @@ use Rattle.std.proofs.lemmas.Bool.{eqb-true}
 use Rattle.rt_json.specs.Answers.{IsTree}
 use Rattle.rt_json.specs.declared.fault.JsonFault.{JsonFault}
 use Rattle.rt_json.specs.declared.fault.JsonFault.TheVariants as json
-use Rattle.rt_first.specs.Trees.{named}
+use Rattle.rt_json.specs.Trees.{field}
 use Rattle.realtime_replay.specs.Faults.{of_json}
 use Rattle.rt_first.specs.Script.{frame_tree, insert_tree, IsField, IsInsertTree, IsRow, IsRowLine, AreSaid}
 use Rattle.realtime_replay.specs.declared.fault.FormFault.TheVariants as form
@@ -34,10 +34,10 @@ pub items_twice : (tree : Json) (a b : List Json) → tree ≡ j.List a → tree
 items_twice tree a b e f = same_items a b (sym e ∙ f)
 
 -- the first member taken off, twice
-pub first_twice : (name : List ℕ) (members r s : List Member) (a b : Json) → members ≡ named name a ∷ r → members ≡ named name b ∷ s → (a ≡ b) × (r ≡ s)
+pub first_twice : (name : List ℕ) (members r s : List Member) (a b : Json) → members ≡ field name a ∷ r → members ≡ field name b ∷ s → (a ≡ b) × (r ≡ s)
 first_twice name members r s a b e f =
-    let both : named name a ∷ r ≡ named name b ∷ s = sym e ∙ f in
-    let head : named name a ≡ named name b = cc in
+    let both : field name a ∷ r ≡ field name b ∷ s = sym e ∙ f in
+    let head : field name a ≡ field name b = cc in
     (ap (λ (m : Member). m.value) head, cc)
 
 pub one_item : {A : Type 0} (xs : List A) (d : A) → length xs ≡ 1 → xs ≡ get_or xs 0 d ∷ []
@@ -68,7 +68,7 @@ pub two_heads : {A : Type 0} {a b x y : A} → a ∷ b ∷ [] ≡ x ∷ y ∷ []
 two_heads e = (cc, cc)
 
 -- two members of an object, twice
-pub two_twice : (tree : Json) (one two : List ℕ) (a b x y : Json) → tree ≡ j.Object (named one a ∷ named two b ∷ []) → tree ≡ j.Object (named one x ∷ named two y ∷ [])
+pub two_twice : (tree : Json) (one two : List ℕ) (a b x y : Json) → tree ≡ j.Object (field one a ∷ field two b ∷ []) → tree ≡ j.Object (field one x ∷ field two y ∷ [])
     → (a ≡ x) × (b ≡ y)
 two_twice tree one two a b x y e f =
     let both = members_twice tree _ _ e f in
@@ -76,8 +76,8 @@ two_twice tree one two a b x y e f =
     let second = first_twice two _ _ _ b y refl first.1 in
     (first.0, second.0)
 
-pub two_equal : (one two : List ℕ) (a b x y : Json) → a ≡ x → b ≡ y → j.Object (named one a ∷ named two b ∷ []) ≡ j.Object (named one x ∷ named two y ∷ [])
-two_equal one two a b x y e f = ap (λ v. j.Object (named one v ∷ named two b ∷ [])) e ∙ ap (λ v. j.Object (named one x ∷ named two v ∷ [])) f
+pub two_equal : (one two : List ℕ) (a b x y : Json) → a ≡ x → b ≡ y → j.Object (field one a ∷ field two b ∷ []) ≡ j.Object (field one x ∷ field two y ∷ [])
+two_equal one two a b x y e f = ap (λ v. j.Object (field one v ∷ field two b ∷ [])) e ∙ ap (λ v. j.Object (field one x ∷ field two v ∷ [])) f
 
 pub empty_of : {A : Type 0} (xs : List A) (b : Bool) → b ≡ (length xs == 0) → b ≡ true → xs ≡ []
 empty_of xs b is e = empty_list xs (eqb-true (length xs) 0 (sym is ∙ e))
@@ -90,7 +90,7 @@ behind_three e = cc
 
 -- three members of an object, twice
 pub three_twice : (one two three : List ℕ) (a b c x y z : Json)
-    → j.Object (named one a ∷ named two b ∷ named three c ∷ []) ≡ j.Object (named one x ∷ named two y ∷ named three z ∷ []) → (a ≡ x) × (b ≡ y) × (c ≡ z)
+    → j.Object (field one a ∷ field two b ∷ field three c ∷ []) ≡ j.Object (field one x ∷ field two y ∷ field three z ∷ []) → (a ≡ x) × (b ≡ y) × (c ≡ z)
 three_twice one two three a b c x y z e =
     let first = first_twice one _ _ _ a x refl (same_members _ _ e) in
     let second = first_twice two _ _ _ b y refl first.1 in

@@ -1,6 +1,6 @@
 //! Tests of a tree's shape, each telling exactly which tree it is.
 ghost use Rattle.std.specs.Prelude.{◌≡◌, ◌↔◌, ◌∷◌, [], ℕ, List, IsTrue, MatchOption};
-ghost use Rattle.rt_first.specs.Trees.{named};
+ghost use Rattle.rt_json.specs.Trees.{field};
 ghost use Rattle.rt_json.specs.declared.tree.named.Member as m;
 ghost use Rattle.rt_json.specs.declared.tree.Json as j;
 
@@ -73,8 +73,8 @@ pub fn members_of(tree: &Json) -> Option<&[Member]>
 
 /// The value of the first member, which has to have this name, and the members behind it.
 pub fn first_named<'a>(members: &'a [Member], name: &str) -> Option<(&'a Json, &'a [Member])>
-    ensures { MatchOption result ((value : j.Json) (rest : List m.Member) → members.now ≡ named name.now value ∷ rest → ⊥)
-        (λ found. members.now ≡ named name.now found.0.now ∷ found.1.now) }
+    ensures { MatchOption result ((value : j.Json) (rest : List m.Member) → members.now ≡ field name.now value ∷ rest → ⊥)
+        (λ found. members.now ≡ field name.now found.0.now ∷ found.1.now) }
 {
     match members {
         [first, rest @ ..] => {
@@ -90,8 +90,8 @@ pub fn first_named<'a>(members: &'a [Member], name: &str) -> Option<(&'a Json, &
 
 /// The members behind the first one, which has to have this name and to be this text.
 pub fn first_text<'a>(members: &'a [Member], name: &str, text: &str) -> Option<&'a [Member]>
-    ensures { MatchOption result ((rest : List m.Member) → members.now ≡ named name.now (Json.Text text.now) ∷ rest → ⊥)
-        (λ rest. members.now ≡ named name.now (Json.Text text.now) ∷ rest.now) }
+    ensures { MatchOption result ((rest : List m.Member) → members.now ≡ field name.now (Json.Text text.now) ∷ rest → ⊥)
+        (λ rest. members.now ≡ field name.now (Json.Text text.now) ∷ rest.now) }
 {
     let (value, rest) = first_named(members, name)?;
     if is_text(value, text) {
@@ -103,8 +103,8 @@ pub fn first_text<'a>(members: &'a [Member], name: &str, text: &str) -> Option<&
 
 /// The value of an object of one member, which has to have this name.
 pub fn only_value<'a>(tree: &'a Json, name: &str) -> Option<&'a Json>
-    ensures { MatchOption result ((value : j.Json) → tree.now ≡ Json.Object (named name.now value ∷ []) → ⊥)
-        (λ value. tree.now ≡ Json.Object (named name.now value.now ∷ [])) }
+    ensures { MatchOption result ((value : j.Json) → tree.now ≡ Json.Object (field name.now value ∷ []) → ⊥)
+        (λ value. tree.now ≡ Json.Object (field name.now value.now ∷ [])) }
 {
     let (value, rest) = first_named(members_of(tree)?, name)?;
     if rest.is_empty() { Some(value) } else { None }
@@ -112,8 +112,8 @@ pub fn only_value<'a>(tree: &'a Json, name: &str) -> Option<&'a Json>
 
 /// The values of an object of two members, which have to have these names.
 pub fn two_values<'a>(tree: &'a Json, one: &str, two: &str) -> Option<(&'a Json, &'a Json)>
-    ensures { MatchOption result ((a b : j.Json) → tree.now ≡ Json.Object (named one.now a ∷ named two.now b ∷ []) → ⊥)
-        (λ v. tree.now ≡ Json.Object (named one.now v.0.now ∷ named two.now v.1.now ∷ [])) }
+    ensures { MatchOption result ((a b : j.Json) → tree.now ≡ Json.Object (field one.now a ∷ field two.now b ∷ []) → ⊥)
+        (λ v. tree.now ≡ Json.Object (field one.now v.0.now ∷ field two.now v.1.now ∷ [])) }
 {
     let (a, rest) = first_named(members_of(tree)?, one)?;
     let (b, rest) = first_named(rest, two)?;
@@ -128,8 +128,8 @@ pub fn three_values<'a>(
     three: &str,
 ) -> Option<(&'a Json, &'a Json, &'a Json)>
     ensures { MatchOption result
-        ((a b c : j.Json) → tree.now ≡ Json.Object (named one.now a ∷ named two.now b ∷ named three.now c ∷ []) → ⊥)
-        (λ v. tree.now ≡ Json.Object (named one.now v.0.now ∷ named two.now v.1.now ∷ named three.now v.2.now ∷ [])) }
+        ((a b c : j.Json) → tree.now ≡ Json.Object (field one.now a ∷ field two.now b ∷ field three.now c ∷ []) → ⊥)
+        (λ v. tree.now ≡ Json.Object (field one.now v.0.now ∷ field two.now v.1.now ∷ field three.now v.2.now ∷ [])) }
 {
     let (a, rest) = first_named(members_of(tree)?, one)?;
     let (b, rest) = first_named(rest, two)?;

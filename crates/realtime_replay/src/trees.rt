@@ -1,7 +1,7 @@
 //! Small JSON trees.
 ghost use Rattle.std.specs.Prelude.{◌≡◌, ◌++◌, ◌∷◌, [], IfOk, OnOk};
 ghost use Rattle.std.specs.Fmt.{decimal};
-ghost use Rattle.rt_first.specs.Trees.{named};
+ghost use Rattle.rt_json.specs.Trees.{field};
 
 use rt_json::{Json, Member};
 use rt_value::{List, Text};
@@ -38,7 +38,7 @@ pub fn put(
     name: &str,
     value: Json,
 ) -> Result<(), AllocError>
-    ensures { OnOk result (members.new.items ≡ members.old.items ++ named name.now value ∷ []) }
+    ensures { OnOk result (members.new.items ≡ members.old.items ++ field name.now value ∷ []) }
 {
     let name = Text::new(String::from_str(alloc, name)?);
     members.push(Member { name, value })?;
@@ -52,7 +52,7 @@ pub fn put_text(
     name: &str,
     text: &str,
 ) -> Result<(), AllocError>
-    ensures { OnOk result (members.new.items ≡ members.old.items ++ named name.now (Json.Text text.now) ∷ []) }
+    ensures { OnOk result (members.new.items ≡ members.old.items ++ field name.now (Json.Text text.now) ∷ []) }
 {
     let value = text_tree(alloc, text)?;
     put(alloc, members, name, value)

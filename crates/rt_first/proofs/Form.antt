@@ -8,7 +8,7 @@ use Rattle.rt_catalog.specs.declared.catalog.Table.{Table as CatalogTable}
 use Rattle.rt_first.specs.First.{catalog_of, table_of}
 use Rattle.rt_first.specs.Script.{insert_tree}
 use Rattle.rt_first.specs.Statements.{key_place}
-use Rattle.rt_first.specs.Trees.{named}
+use Rattle.rt_json.specs.Trees.{field}
 use Rattle.rt_first.specs.declared.catalogue.Catalogue.{Catalogue}
 use Rattle.rt_first.specs.declared.catalogue.Column.{Column}
 use Rattle.rt_first.specs.declared.catalogue.Table.{Table}
@@ -30,13 +30,13 @@ abbrev pub whole_table : List ℕ → Column → Column → Bool → CatalogTabl
 whole_table name first second is_key = table_of (table_with name first second is_key)
 
 abbrev pub field_tree : List ℕ → Json → Json → Json
-field_tree name kind value = j.Object (named (codes "name") (Text name) ∷ named (codes "type") kind ∷ named (codes "value") value ∷ [])
+field_tree name kind value = j.Object (field (codes "name") (Text name) ∷ field (codes "type") kind ∷ field (codes "value") value ∷ [])
 
 abbrev pub fields_tree : List ℕ → List ℕ → Json → Json → Json → Json → Json
 fields_tree first second kind other one two = j.List (field_tree first kind one ∷ field_tree second other two ∷ [])
 
 abbrev pub key_tree : List ℕ → Json → Json
-key_tree name kind = j.List (j.Object (named (codes "name") (Text name) ∷ named (codes "type") kind ∷ []) ∷ [])
+key_tree name kind = j.List (j.Object (field (codes "name") (Text name) ∷ field (codes "type") kind ∷ []) ∷ [])
 
 -- the record's tree: the types' trees are of any kind
 abbrev pub row_tree : List ℕ → List ℕ → List ℕ → List ℕ → Json → Json → Json → Json → Json → Json

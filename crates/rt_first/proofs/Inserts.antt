@@ -14,7 +14,7 @@ use Rattle.rt_wal.specs.declared.records.Field.{Field}
 use Rattle.rt_wal.specs.declared.records.Action.TheVariants as action
 use Rattle.rt_wal.specs.Shapes.{◌>>=◌, each, field_of, named_items, fields_in, keys_in, shape_of}
 use Rattle.rt_wal.specs.Records.{IsRecordText}
-use Rattle.rt_first.specs.Trees.{named}
+use Rattle.rt_json.specs.Trees.{field}
 use Rattle.rt_first.proofs.Form.{field_tree, fields_tree, key_tree, row_tree}
 use Rattle.rt_first.proofs.Numbers.{Numbers, NumbersOver, value_numbers}
 use Rattle.rt_first.proofs.Values.{IsSound}
@@ -69,8 +69,8 @@ module _ (name first second key : List ℕ) (kind other third one two : Json) (l
     (read : IsJson line (row_tree name first second key kind other third one two)) where
   abbrev members : List Member
   members =
-      named (codes "action") (j.Text (codes "I")) ∷ named (codes "schema") (j.Text (codes "public")) ∷ named (codes "table") (j.Text name)
-      ∷ named (codes "columns") (fields_tree first second kind other one two) ∷ named (codes "pk") (key_tree key third) ∷ []
+      field (codes "action") (j.Text (codes "I")) ∷ field (codes "schema") (j.Text (codes "public")) ∷ field (codes "table") (j.Text name)
+      ∷ field (codes "columns") (fields_tree first second kind other one two) ∷ field (codes "pk") (key_tree key third) ∷ []
 
   in_members : AllByRecursion (λ (m : Member). Numbers 63 m.value) members
   in_members = subst (NumbersOver (Numbers 63)) (outs-Object members) (value_numbers read.value)
@@ -79,12 +79,12 @@ module _ (name first second key : List ℕ) (kind other third one two : Json) (l
   in_fields = subst (NumbersOver (Numbers 62)) (outs-List (field_tree first kind one ∷ field_tree second other two ∷ [])) in_members.1.1.1.0
 
   abbrev field_members : List ℕ → Json → Json → List Member
-  field_members field shown value = named (codes "name") (j.Text field) ∷ named (codes "type") shown ∷ named (codes "value") value ∷ []
+  field_members name shown value = field (codes "name") (j.Text name) ∷ field (codes "type") shown ∷ field (codes "value") value ∷ []
 
-  in_field : (field : List ℕ) (shown value : Json) → Numbers 62 (field_tree field shown value) → IsSound value
-  in_field field shown value h =
-      let all : AllByRecursion (λ (m : Member). Numbers 61 m.value) (field_members field shown value) =
-      subst (NumbersOver (Numbers 61)) (outs-Object (field_members field shown value)) h in
+  in_field : (name : List ℕ) (shown value : Json) → Numbers 62 (field_tree name shown value) → IsSound value
+  in_field name shown value h =
+      let all : AllByRecursion (λ (m : Member). Numbers 61 m.value) (field_members name shown value) =
+      subst (NumbersOver (Numbers 61)) (outs-Object (field_members name shown value)) h in
       sound 60 value all.1.1.0
 
   pub one_sound : IsSound one

@@ -15,7 +15,6 @@ use Rattle.rt_change.specs.Binding.{tree_for}
 use Rattle.rt_change.specs.Shape.{error_list, field_limit, shape_of}
 use Rattle.rt_first.specs.First.{kind_of, column_of}
 use Rattle.rt_first.specs.Messages.{column_tree, inserted}
-use Rattle.rt_first.specs.Trees.{named}
 use Rattle.rt_first.specs.declared.catalogue.Column.{Column}
 use Rattle.rt_first.proofs.Binds.{change_is, first_tree, second_tree}
 use Rattle.rt_first.proofs.Form.{catalog_with, table_with}
@@ -39,10 +38,10 @@ module _ (name : List ℕ) (first second : Column) (is_key : Bool) (role : List 
 
   abbrev shaped : Bool → Option Json → Option Json → Json
   shaped large a b =
-      j.Object (named (codes "schema") (Text (codes "public")) ∷ named (codes "table") (Text name) ∷ named (codes "type") (Text (codes "INSERT"))
-      ∷ named (codes "commit_timestamp") Null ∷ named (codes "columns") (j.List (column_tree first ∷ column_tree second ∷ []))
-      ∷ named (codes "record") (j.Object (filter_map (kept large a b) columns))
-      ∷ named (codes "errors") (if large then error_list (codes "Error 413: Payload Too Large") else Null) ∷ [])
+      j.Object (field (codes "schema") (Text (codes "public")) ∷ field (codes "table") (Text name) ∷ field (codes "type") (Text (codes "INSERT"))
+      ∷ field (codes "commit_timestamp") Null ∷ field (codes "columns") (j.List (column_tree first ∷ column_tree second ∷ []))
+      ∷ field (codes "record") (j.Object (filter_map (kept large a b) columns))
+      ∷ field (codes "errors") (if large then error_list (codes "Error 413: Payload Too Large") else Null) ∷ [])
 
   pub shape_is : first.name ≢ second.name
       → Stands (kind_of first.column_type) one → Stands (kind_of second.column_type) two → (most : ℕ) → nat_lt most size ≡ false

@@ -5,4 +5,3 @@ pub mod Output
 pub mod Printed
 pub mod Script
 pub mod Statements
-pub mod Trees

@@ -6,7 +6,7 @@ use Rattle.std.specs.List.{list_all}
 use Rattle.rt_json.specs.Grammar.{IsJson}
 use Rattle.rt_json.specs.declared.tree.Json.{Json, Num, Text}
 use Rattle.rt_json.specs.declared.tree.Json.TheVariants as j
-use Rattle.rt_first.specs.Trees.{named}
+use Rattle.rt_json.specs.Trees.{field}
 use Rattle.rt_first.specs.Messages.{wanted_binding}
 use Rattle.rt_first.specs.declared.catalogue.ColumnType.{ColumnType}
 use Rattle.rt_first.specs.declared.catalogue.ColumnType.TheVariants as t
@@ -40,11 +40,11 @@ AreParts text slot claims frame line =
 
 -- the one member of the claims names the role
 abbrev pub claims_tree : List ℕ → Json
-claims_tree role = j.Object (named (codes "role") (Text role) ∷ [])
+claims_tree role = j.Object (field (codes "role") (Text role) ∷ [])
 
 -- presence is off
 abbrev pub presence_tree : Json
-presence_tree = j.Object (named (codes "enabled") (j.Bool false) ∷ [])
+presence_tree = j.Object (field (codes "enabled") (j.Bool false) ∷ [])
 
 abbrev pub IsClaims : List ℕ → List ℕ → Type 0
 IsClaims role claims = IsJson claims (claims_tree role)
@@ -54,15 +54,15 @@ abbrev pub bindings_tree : List ℕ → Json
 bindings_tree table = j.List (j.Object (wanted_binding table) ∷ [])
 
 abbrev pub config_tree : List ℕ → Json
-config_tree table = j.Object (named (codes "presence") presence_tree ∷ named (codes "postgres_changes") (bindings_tree table) ∷ [])
+config_tree table = j.Object (field (codes "presence") presence_tree ∷ field (codes "postgres_changes") (bindings_tree table) ∷ [])
 
 abbrev pub payload_tree : List ℕ → Json
-payload_tree table = j.Object (named (codes "config") (config_tree table) ∷ [])
+payload_tree table = j.Object (field (codes "config") (config_tree table) ∷ [])
 
 -- a frame that joins
 abbrev pub frame_tree : Json → Json → Json → Json
 frame_tree topic payload reference =
-    j.Object (named (codes "topic") topic ∷ named (codes "event") (Text (codes "phx_join")) ∷ named (codes "payload") payload ∷ named (codes "ref") reference ∷ [])
+    j.Object (field (codes "topic") topic ∷ field (codes "event") (Text (codes "phx_join")) ∷ field (codes "payload") payload ∷ field (codes "ref") reference ∷ [])
 
 abbrev pub join_tree : List ℕ → List ℕ → List ℕ → Json
 join_tree topic reference table = frame_tree (Text topic) (payload_tree table) (Text reference)
@@ -106,7 +106,7 @@ fits _ _ = false
 -- a column's value; what is said of its type is passed over
 pub record IsField (column : Column) (tree value : Json) : Type 0 where
   pub kind : Json
-  pub is : tree ≡ j.Object (named (codes "name") (Text column.name) ∷ named (codes "type") kind ∷ named (codes "value") value ∷ [])
+  pub is : tree ≡ j.Object (field (codes "name") (Text column.name) ∷ field (codes "type") kind ∷ field (codes "value") value ∷ [])
   pub of_type : fits column.column_type value ≡ true
 
 -- the values of both columns, in order
@@ -120,7 +120,7 @@ pub record IsFields (first second : Column) (tree one two : Json) : Type 0 where
 -- the one column of a key
 pub record HasKeyName (tree name : Json) : Type 0 where
   pub kind : Json
-  pub is : tree ≡ j.List (j.Object (named (codes "name") name ∷ named (codes "type") kind ∷ []) ∷ [])
+  pub is : tree ≡ j.List (j.Object (field (codes "name") name ∷ field (codes "type") kind ∷ []) ∷ [])
 
 abbrev pub IsKey : Column → Json → Type 0
 IsKey key tree = HasKeyName tree (Text key.name)
@@ -128,8 +128,8 @@ IsKey key tree = HasKeyName tree (Text key.name)
 -- an insert into a table of this name: its members, in this order
 abbrev pub insert_tree : List ℕ → Json → Json → Json
 insert_tree table fields keys =
-    j.Object (named (codes "action") (Text (codes "I")) ∷ named (codes "schema") (Text (codes "public")) ∷ named (codes "table") (Text table)
-    ∷ named (codes "columns") fields ∷ named (codes "pk") keys ∷ [])
+    j.Object (field (codes "action") (Text (codes "I")) ∷ field (codes "schema") (Text (codes "public")) ∷ field (codes "table") (Text table)
+    ∷ field (codes "columns") fields ∷ field (codes "pk") keys ∷ [])
 
 pub record IsInsertTree (table : List ℕ) (first second key : Column) (tree one two : Json) : Type 0 where
   pub fields : Json
