@@ -3,12 +3,13 @@ use Rattle.std.specs.Prelude.{ℕ, ◌<◌, ◌^◌, List, ◌∷◌, length, Co
 use Rattle.std.specs.List.{AllByRecursion}
 use Rattle.rt_phx.specs.declared.message.Message.{Message}
 use Rattle.rt_catalog.specs.declared.catalog.Catalog.{Catalog}
+use Rattle.rt_catalog.specs.Names.{HasReadableNames}
 use Rattle.rt_entry.specs.declared.input.Input.{Input}
 use Rattle.rt_entry.specs.declared.input.Settings.{Settings}
 use Rattle.rt_entry.specs.declared.answer.Answer.TheVariants.{Says}
 use Rattle.rt_entry.specs.Answers.{answers}
 use Rattle.rt_entry.specs.Headline.{MayTake}
-use Rattle.rt_entry.specs.Readable.{payload_levels, IsReadable, HasReadableNames}
+use Rattle.rt_entry.specs.Readable.{payload_levels, IsReadable}
 
 -- a journal may take the input, behind some latest tick
 abbrev pub CanBeTaken : Catalog → Input → Type 0
