@@ -3,6 +3,7 @@
 
 mod catalog;
 mod fault;
+pub mod laws;
 mod statement;
 
 pub use catalog::{Catalog, Column, Grant, Role, Table};

@@ -13,6 +13,7 @@ use Rattle.rt_phx.specs.declared.message.Message.{Message}
 use Rattle.rt_phx.specs.declared.message.Version.{Version}
 use Rattle.rt_phx.specs.Frame.{no_members, message_of_tree, spelled}
 use Rattle.rt_catalog.specs.declared.catalog.Catalog.{Catalog}
+use Rattle.rt_catalog.specs.Names.{HasReadableNames}
 use Rattle.rt_entry.specs.declared.input.Input.{Input}
 use Rattle.rt_entry.specs.declared.input.Settings.{Settings}
 use Rattle.rt_entry.specs.declared.input.Step.{Step}
@@ -28,7 +29,7 @@ use Rattle.rt_entry.specs.Messages.{meta_tree}
 use Rattle.rt_entry.specs.Doings.{story}
 use Rattle.rt_entry.specs.Answers.{told, answers, due}
 use Rattle.rt_entry.specs.Machine.{World, is_message, start, run}
-use Rattle.rt_entry.specs.Readable.{payload_levels, HasReadableNames, IsOfLines}
+use Rattle.rt_entry.specs.Readable.{payload_levels, IsOfLines}
 
 -- a key and a meta under it
 abbrev pub Held : Type 0

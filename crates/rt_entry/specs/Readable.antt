@@ -1,12 +1,9 @@
 -- What a client can read: a message whose texts are UTF-8, whose numbers are numbers of the grammar, and whose payload nests only so deep.
 use Rattle.std.specs.Prelude.{ℕ, All, IsUtf8, ⊤}
-use Rattle.std.specs.List.{AllByRecursion}
 use Rattle.rt_json.specs.Fits.{FitsWithin}
 use Rattle.rt_phx.specs.declared.message.Message.{Message}
 use Rattle.rt_phx.specs.Fits.{IsRef}
 use Rattle.rt_catalog.specs.declared.catalog.Catalog.{Catalog}
-use Rattle.rt_catalog.specs.declared.catalog.Column.{Column}
-use Rattle.rt_catalog.specs.declared.catalog.Table.{Table}
 use Rattle.rt_change.specs.Binding.{IsOfLine}
 use Rattle.rt_entry.specs.declared.input.Input.{Input}
 use Rattle.rt_entry.specs.declared.input.Input.TheVariants.{Poll}
@@ -23,19 +20,6 @@ pub record IsReadable (levels : ℕ) (m : Message) : Type 0 where
 -- payload nests deeper: a value of a line's record nests in 61 levels, so the record in 62, the change in 63, and its message's payload in 64.
 abbrev pub payload_levels : ℕ
 payload_levels = 66
-
--- The names of a catalogue are UTF-8: the code holds them as texts.
-pub record IsReadableColumn (col : Column) : Type 0 where
-  pub name : IsUtf8 col.name
-  pub shown : IsUtf8 col.shown
-
-pub record IsReadableTable (t : Table) : Type 0 where
-  pub schema : IsUtf8 t.schema
-  pub name : IsUtf8 t.name
-  pub columns : AllByRecursion IsReadableColumn t.columns
-
-abbrev pub HasReadableNames : Catalog → Type 0
-HasReadableNames c = AllByRecursion IsReadableTable c.tables
 
 -- a poll's changes are each that of a line
 abbrev pub IsOfLines : Catalog → Input → Type 0

@@ -10,12 +10,12 @@ use Rattle.rt_json.specs.Trees.{field}
 use Rattle.rt_catalog.specs.declared.catalog.Catalog.{Catalog}
 use Rattle.rt_catalog.specs.declared.catalog.Column.{Column}
 use Rattle.rt_catalog.specs.Access.{may_select, table_at, no_table, is_secured}
+use Rattle.rt_catalog.specs.Names.{IsReadableColumn, IsReadableTable, HasReadableNames}
 use Rattle.rt_change.specs.declared.change.Verb.{Verb}
 use Rattle.rt_change.specs.declared.change.Verb.TheVariants.{Insert, Update, Delete, Truncate}
 use Rattle.rt_change.specs.declared.change.Change.{Change}
 use Rattle.rt_change.specs.Verdicts.{writes, lacks_key, hides_key}
 use Rattle.rt_change.specs.Shape.{verb_name, error_list, is_large, shown_columns, is_kept, field_of, record_of, is_key_column, old_columns, head, column_tree, records, refused, whole, shape_of}
-use Rattle.rt_entry.specs.Readable.{IsReadableColumn, IsReadableTable, HasReadableNames}
 use Rattle.rt_laws.proofs.Plain.{AllOf, Maybe, all_append, all_map_of}
 use Rattle.rt_laws.proofs.Fitting.{MemberFits, null_fits, text_fits, list_fits, object_fits}
 use Rattle.rt_laws.proofs.Texts.{word}

@@ -4,6 +4,7 @@ use Rattle.std.specs.Prelude.{⊤, ◌^◌, ◌==◌, Contains, nat_le, if◌the
 use Rattle.std.specs.List.{filter, filter_map, flat_map, AllByRecursion}
 use Rattle.rt_phx.specs.declared.message.Message.{Message}
 use Rattle.rt_catalog.specs.declared.catalog.Catalog.{Catalog}
+use Rattle.rt_catalog.specs.Names.{HasReadableNames}
 use Rattle.rt_entry.specs.declared.input.Input.{Input}
 use Rattle.rt_entry.specs.declared.input.Settings.{Settings}
 use Rattle.rt_entry.specs.declared.story.Channel.{Channel}
@@ -17,7 +18,7 @@ use Rattle.rt_entry.specs.Doings.{story}
 use Rattle.rt_entry.specs.Answers.{answer_of, at_slot, told, answers_by, answers}
 use Rattle.rt_entry.specs.Presence.{said_by, said_since}
 use Rattle.rt_laws.specs.After.{joins_of, remains, renewed, new_member, tracks_in, outlasts, after, done_by}
-use Rattle.rt_entry.specs.Readable.{payload_levels, IsReadable, HasReadableNames}
+use Rattle.rt_entry.specs.Readable.{payload_levels, IsReadable}
 use Rattle.rt_laws.proofs.Among.{from_contains}
 use Rattle.rt_laws.proofs.Clients.{story_length}
 use Rattle.rt_laws.proofs.Plain.{AllOf, all_among, all_append, all_map_of, all_filter, Maybe}

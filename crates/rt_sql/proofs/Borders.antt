@@ -27,10 +27,10 @@ blank_is_ascii b blank = grind (arith, nat_tests)
 digit_is_ascii : (b : ℕ) → is_ascii_digit b ≡ true → b < 128
 digit_is_ascii b digit = grind (arith, nat_tests)
 
-word_is_ascii : (b : ℕ) → continues_word b ≡ true → b < 128
+pub word_is_ascii : (b : ℕ) → continues_word b ≡ true → b < 128
 word_is_ascii b word = grind (arith, nat_tests)
 
-begin_continues : (b : ℕ) → begins_word b ≡ true → continues_word b ≡ true
+pub begin_continues : (b : ℕ) → begins_word b ≡ true → continues_word b ≡ true
 begin_continues b word = grind (arith, nat_tests)
 
 double_is_ascii : (a b : ℕ) → is_double_sign a b ≡ true → b < 128

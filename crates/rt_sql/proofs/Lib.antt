@@ -1,6 +1,7 @@
 pub mod Borders
 pub mod Extends
 pub mod Fronts
+pub mod Kept
 pub mod KindOf
 pub mod Longest
 pub mod Quotes

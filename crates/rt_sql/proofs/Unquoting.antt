@@ -1,11 +1,11 @@
--- What stands in quotes is read again: each doubled quote once.
-use Rattle.std.proofs.Common.{◌≡◌, ℕ, suc, ◌+◌, ◌-◌, ◌<◌, Bool, true, false, not, cond, eqb, List, [], ◌∷◌, ◌++◌, length, get_or, take, drop, refl, sym, ap, subst, ◌∙◌, inl, inr, arith, length-append, append_assoc}
+-- What stands in quotes is read again: each doubled quote once. Where the quoted bytes are UTF-8, so is what they hold.
+use Rattle.std.proofs.Common.{◌≡◌, ℕ, zero, suc, ◌+◌, ◌-◌, ◌<◌, Bool, true, false, not, cond, eqb, List, [], ◌∷◌, ◌++◌, length, get_or, take, drop, refl, sym, ap, subst, ◌∙◌, inl, inr, arith, length-append, append_assoc, lit<}
 use Rattle.std.specs.List.{position_or_len, before_first, after_first}
-use Rattle.std.specs.Prelude.{IsUtf8, IsCharBoundary}
-use Rattle.std.proofs.lemmas.Bool.{cases_eq, eq-eqb, ne_eqb, eqb-true}
-use Rattle.std.proofs.lemmas.List.{take_at}
-use Rattle.std.proofs.lemmas.List.Sums.{passes_at_first}
-use Rattle.std.proofs.lemmas.Str.{IsCharBoundary-after_ascii, IsUtf8-drop}
+use Rattle.std.specs.Prelude.{IsUtf8, IsAscii, IsCharBoundary}
+use Rattle.std.proofs.lemmas.Bool.{cases_lt, cases_eq, eq-eqb, ne_eqb, eqb-true}
+use Rattle.std.proofs.lemmas.List.{take_at, get_or_push}
+use Rattle.std.proofs.lemmas.List.Sums.{passes_at_first, prefix_len-le-length}
+use Rattle.std.proofs.lemmas.Str.{IsCharBoundary-before_ascii, IsCharBoundary-after_ascii, IsUtf8-append, IsUtf8-from_ascii, IsUtf8-take, IsUtf8-drop}
 use Rattle.rt_sql.specs.Piece.{doubled, in_quotes}
 use Rattle.rt_sql.specs.Front.{IsQuoted}
 use Rattle.rt_sql.specs.Lexeme.{within_quotes, behind_quote, unquoted}
@@ -173,3 +173,49 @@ part_read_on quote quoted inner rest before after next read lt first second cut 
     let (behind, e, further) = part_read quote quoted inner rest before after read lt first second in
     let drops : drop 1 after ≡ behind = ap (drop 1) e in
     subst (IsReadOf quote quoted ((inner ++ before) ++ quote ∷ [])) (sym (cut ∙ drops)) further
+
+pub one_byte_utf8 : (b : ℕ) → b < 128 → IsUtf8 (b ∷ [])
+one_byte_utf8 b ascii = IsUtf8-from_ascii (b ∷ []) (one_ascii b ascii)
+  where
+    one_ascii : (b : ℕ) → b < 128 → IsAscii (b ∷ [])
+    one_ascii b ascii zero = ascii
+    one_ascii b ascii (suc k) = lit< tt
+
+-- Bytes are UTF-8 where they are with each quote among them twice. The number is above their length.
+undoubled_utf8 : (quote more : ℕ) (tail : List ℕ) → quote < 128 → length tail < more → IsUtf8 (doubled quote tail) → IsUtf8 tail
+undoubled_utf8 quote zero tail ascii short utf8 = absurd (omega arith)
+undoubled_utf8 quote (suc more) tail ascii short utf8 =
+    elim (cases_lt (position_or_len (at_quote quote) (doubled quote tail)) (length (doubled quote tail))) [
+      | inl lt ↦
+          let xs : List ℕ = doubled quote tail in
+          let n : ℕ = position_or_len (at_quote quote) xs in
+          let split = split_doubled quote tail lt in
+          let rest : List ℕ = doubled quote split.behind in
+          let here : get_or xs n 0 ≡ quote = eqb-true (get_or xs n 0) quote (passes_at_first (at_quote quote) xs 0 lt) in
+          let front : IsUtf8 (before_first (at_quote quote) xs) =
+          IsUtf8-take xs n utf8 (IsCharBoundary-before_ascii xs n lt (omega (arith, ascii, here))) in
+          let after : IsUtf8 (quote ∷ rest) = subst IsUtf8 split.after (after_utf8 quote xs ascii utf8 lt) in
+          let left : IsUtf8 rest = IsUtf8-drop (quote ∷ rest) 1 after (first_border quote rest (quote ∷ rest) ascii after refl) in
+          let shorter : length split.behind < more =
+          omega (arith, short, ap length split.whole, length-append (before_first (at_quote quote) xs) (quote ∷ split.behind)) in
+          let behind : IsUtf8 split.behind = undoubled_utf8 quote more split.behind ascii shorter left in
+          subst IsUtf8 (sym split.whole) (
+          IsUtf8-append (before_first (at_quote quote) xs) (quote ∷ split.behind) front
+          (IsUtf8-append (quote ∷ []) split.behind (one_byte_utf8 quote ascii) behind))
+      | inr le ↦
+          let xs : List ℕ = doubled quote tail in
+          let none : position_or_len (at_quote quote) xs ≡ length xs = omega (arith, le, prefix_len-le-length (λ b. not (at_quote quote b)) xs) in
+          subst IsUtf8 (no_quote_left quote tail none) utf8
+    ]
+
+-- what quoted bytes hold is UTF-8 where they are
+pub inner_utf8 : (quote : ℕ) (inner : List ℕ) → quote < 128 → IsUtf8 (in_quotes quote inner) → IsUtf8 inner
+inner_utf8 quote inner ascii utf8 =
+    let xs : List ℕ = doubled quote inner in
+    let behind : IsUtf8 (closing quote xs) =
+    IsUtf8-drop (in_quotes quote inner) 1 utf8 (first_border quote (closing quote xs) (in_quotes quote inner) ascii utf8 refl) in
+    let last : get_or (closing quote xs) (length xs) 0 ≡ quote = get_or_push xs quote 0 (length xs) refl in
+    let border : IsCharBoundary (closing quote xs) (length xs) =
+    IsCharBoundary-before_ascii (closing quote xs) (length xs) (omega (arith, length-append xs (quote ∷ []))) (omega (arith, ascii, last)) in
+    let front : IsUtf8 (take (length xs) (closing quote xs)) = IsUtf8-take (closing quote xs) (length xs) behind border in
+    undoubled_utf8 quote (length inner + 1) inner ascii (omega arith) (subst IsUtf8 (take_at xs (quote ∷ []) (length xs) refl) front)

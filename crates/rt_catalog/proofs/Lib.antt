@@ -1,0 +1,5 @@
+pub mod Clauses
+pub mod Named
+pub mod Phrases
+pub mod Readable
+pub mod Shown
