@@ -1,7 +1,6 @@
 mod Accepting
 mod Agree
 mod Allowed
-pub mod Among
 mod Clients
 mod Columns
 mod Doing
@@ -16,16 +15,13 @@ pub mod Grows
 mod Hears
 mod Incoming
 pub mod Journals
-mod Keys
 pub mod Lists
 pub mod Marks
 mod Metas
 mod Moments
-mod Moves
 mod Once
 mod Opens
 mod Outgoing
-pub mod Plain
 mod Present
 mod Read
 mod Recorded

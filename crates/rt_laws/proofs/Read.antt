@@ -34,16 +34,15 @@ use Rattle.rt_entry.specs.Presence.{Held, after_message, client_view, shown_meta
 use Rattle.rt_entry.specs.Headline.{MayArrive, MayFeed, MayTake}
 use Rattle.rt_entry.specs.Readable.{payload_levels, IsReadable}
 use Rattle.rt_laws.specs.Told.{CanBeTaken, AnswersAreReadable}
-use Rattle.rt_laws.proofs.Among.{from_contains}
-use Rattle.rt_laws.proofs.Plain.{AllOf, filter_map_swap}
+use Rattle.rt_value.proofs.Among.{from_contains}
+use Rattle.rt_value.proofs.Plain.{AllOf, filter_map_swap}
 use Rattle.rt_laws.proofs.Fitting.{null_fits, text_fits, number_fits}
 use Rattle.rt_laws.proofs.Doing.{InputFits}
 use Rattle.rt_laws.proofs.Telling.{said_fits, answer_fits}
 use Rattle.rt_laws.proofs.Recorded.{all_bound}
 use Rattle.rt_laws.proofs.Stocked.{run_stocked, start_stocked}
-use Rattle.rt_laws.proofs.Moves.{Moves, permuted}
-use Rattle.rt_laws.proofs.Metas.{list_items}
-use Rattle.rt_laws.proofs.Columns.{object_at}
+use Rattle.rt_value.proofs.Moves.{Moves, permuted}
+use Rattle.rt_json.proofs.Lookups.{object_at, list_items}
 use Rattle.rt_laws.proofs.Turns.{view_append}
 use Rattle.rt_laws.proofs.Agree.{agrees}
 use Rattle.rt_laws.proofs.Since.{as_items, due_since, since_on}

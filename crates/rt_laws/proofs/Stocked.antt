@@ -11,7 +11,7 @@ use Rattle.rt_entry.specs.Machine.{Slot, Lane, World, Placed, start, Outcome, do
 use Rattle.rt_entry.specs.Answers.{lane_marks}
 use Rattle.rt_entry.specs.Headline.{MayArrive, MayFeed, MayStep, AreAllowed, tick_after}
 use Rattle.rt_laws.proofs.Good.{with_all}
-use Rattle.rt_laws.proofs.Plain.{AllOf, all_append}
+use Rattle.rt_value.proofs.Plain.{AllOf, all_append}
 
 module _ (c : Catalog) (s : Settings) (F : Input → Type 0) (arrives : (i : Input) → MayArrive i → F i)
     (feeds : (m : ℕ) (i : Input) → MayFeed c m i → F i) where
