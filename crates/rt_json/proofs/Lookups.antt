@@ -1,11 +1,12 @@
--- The last member of a name.
+-- The last member of a name, the members of an object, the items of a list.
 use Rattle.std.specs.Str.{bytes_eq}
 use Rattle.std.proofs.Common.{◌≡◌, ℕ, ◌+◌, ◌<◌, Bool, true, List, [], ◌∷◌, ◌++◌, Option, Some, None, refl, ap, sym, ◌∙◌, length, take, drop, get_or, cond}
 use Rattle.std.proofs.lemmas.List.{drop_more, take-append-drop}
 use Rattle.rt_json.specs.Grammar.{member}
 use Rattle.rt_json.specs.Lookup.{last_named, or_else, members_of, member_of, row_members}
-use Rattle.rt_json.specs.declared.tree.Json.{Json, Row_of-Member, end_of-Member, more_of-Member, items-the_row-Member, items_hidden-the_row-Member-1}
-use Rattle.rt_json.specs.declared.tree.Json.TheBlock.{hidden-the_row-Member-1}
+use Rattle.rt_json.specs.Trees.{list_of, row_items}
+use Rattle.rt_json.specs.declared.tree.Json.{Json, Row_of-Json, end_of-Json, more_of-Json, items-the_row-Json, items_hidden-the_row-Json-0, Row_of-Member, end_of-Member, more_of-Member, items-the_row-Member, items_hidden-the_row-Member-1}
+use Rattle.rt_json.specs.declared.tree.Json.TheBlock.{hidden-the_row-Json-0, hidden-the_row-Member-1}
 use Rattle.rt_json.specs.declared.tree.Json.TheVariants as j
 use Rattle.rt_json.specs.declared.tree.named.Member.{Member}
 
@@ -35,5 +36,16 @@ row_is (more_of-Member name value rest) = ap (λ (xs : List Member). member name
 pub object_members : (ms : List Member) → members_of (j.Object ms) ≡ ms
 object_members ms = row_is (hidden-the_row-Member-1 ms) ∙ items_hidden-the_row-Member-1 ms
 
+pub object_at : (ms : List Member) (name : List ℕ) → member_of (j.Object ms) name ≡ last_named name ms
+object_at ms name = ap (last_named name) (object_members ms)
+
 pub member_is : (tree : Json) (name : List ℕ) (ms ns : List Member) → tree ≡ j.Object ms → ns ≡ ms → member_of tree name ≡ last_named name ns
 member_is tree name ms ns e f = ap (λ (t : Json). member_of t name) e ∙ ap (last_named name) (object_members ms ∙ sym f)
+
+-- the items of a list
+items_are : {n : _} → (row : Row_of-Json n) → row_items row ≡ items-the_row-Json n row
+items_are end_of-Json = refl
+items_are (more_of-Json tree rest) = ap (λ (xs : List Json). tree ∷ xs) (items_are rest)
+
+pub list_items : (xs : List Json) → list_of (j.List xs) ≡ Some xs
+list_items xs = ap (λ (ys : List Json). Some ys) (items_are (hidden-the_row-Json-0 xs) ∙ items_hidden-the_row-Json-0 xs)

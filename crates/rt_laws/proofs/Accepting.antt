@@ -6,6 +6,7 @@ use Rattle.std.specs.Str.{bytes_eq}
 use Rattle.std.proofs.lemmas.Bool.Decides.{nat_tests}
 use Rattle.std.proofs.lemmas.Str.{IsUtf8-append}
 use Rattle.rt_value.specs.declared.claims.Claims.{Claims}
+use Rattle.rt_value.proofs.Plain.{AllOf, Maybe, all_map_of}
 use Rattle.rt_json.specs.declared.tree.Json.{Json}
 use Rattle.rt_json.specs.Lookup.{member_of}
 use Rattle.rt_json.specs.Trees.{is_null}
@@ -33,7 +34,6 @@ use Rattle.rt_entry.specs.declared.story.Member.{Member}
 use Rattle.rt_entry.specs.Joining.{Checked, ◌>>◌, or_why, demand, told_by, registry_text, channel_limit, binding_of, key_of, join_ref_of, asked_claims, channel_of_join, renewal_of}
 use Rattle.rt_entry.specs.Story.{Now, Standing}
 use Rattle.rt_entry.specs.Readable.{IsReadable}
-use Rattle.rt_laws.proofs.Plain.{AllOf, Maybe, all_map_of}
 use Rattle.rt_laws.proofs.Texts.{word, decimal_utf8, behind, both}
 use Rattle.rt_laws.proofs.Incoming.{AskedFits, ConfigFits, config_fits}
 use Rattle.rt_laws.proofs.Outgoing.{Small, BindingFits, SubscribedFits, ChannelFits, TrackFits}

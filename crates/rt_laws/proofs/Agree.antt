@@ -4,6 +4,9 @@ use Rattle.std.specs.Prelude.{◌^◌, nat_le, Contains}
 use Rattle.std.specs.List.{filter}
 use Rattle.std.specs.Str.{bytes_eq}
 use Rattle.std.proofs.lemmas.Bool.Decides.{leb_tells}
+use Rattle.rt_value.proofs.Among.{Among, from_contains, among_either, among_filter, among_map, map_among}
+use Rattle.rt_value.proofs.Plain.{AllOf, all_among}
+use Rattle.rt_value.proofs.Moves.{Moves, permuted}
 use Rattle.rt_phx.specs.declared.message.Message.{Message}
 use Rattle.rt_catalog.specs.declared.catalog.Catalog.{Catalog}
 use Rattle.rt_entry.specs.declared.input.Input.{Input}
@@ -20,9 +23,6 @@ use Rattle.rt_laws.specs.After.{joins_of, tracks_after, done_by}
 use Rattle.rt_laws.specs.Departures.{heard}
 use Rattle.rt_laws.specs.Follows.{IsNoStop}
 use Rattle.rt_laws.specs.Members.{members_of_journal}
-use Rattle.rt_laws.proofs.Among.{Among, from_contains, among_either, among_filter, among_map, map_among}
-use Rattle.rt_laws.proofs.Plain.{AllOf, all_among}
-use Rattle.rt_laws.proofs.Moves.{Moves, permuted}
 use Rattle.rt_laws.proofs.Grows.{remains_by}
 use Rattle.rt_laws.proofs.Sound.{IsBelow, members_in, no_members, members_more, members_apart, members_below, held_below, joins_well}
 use Rattle.rt_laws.proofs.Journals.{line_of, story_shaped, story_grows}

@@ -4,6 +4,8 @@ use Rattle.std.specs.Prelude.{◌==◌, nat_lt, codes, Contains}
 use Rattle.std.specs.List.{filter_map}
 use Rattle.std.specs.Str.{bytes_eq}
 use Rattle.std.proofs.lemmas.Bool.Decides.{eqb_tells}
+use Rattle.rt_value.proofs.Among.{Among, to_contains, from_contains, among_front, among_either, among_flat, among_filter_map}
+use Rattle.rt_value.proofs.Plain.{AllOf, all_append, all_weaker, all_among}
 use Rattle.rt_phx.specs.declared.message.Version.{Version}
 use Rattle.rt_phx.specs.declared.message.Version.TheVariants.{V1}
 use Rattle.rt_phx.specs.declared.message.Message.{Message}
@@ -28,8 +30,6 @@ use Rattle.rt_entry.specs.Answers.{Answers, answer_of, at_slot, told, spell, ans
 use Rattle.rt_entry.specs.Machine.{Cut, Placed, placed_from, placed, opening_after, cut_of, shown_by, shown_at, shown, start, run}
 use Rattle.rt_entry.specs.Access.{IsDueBy}
 use Rattle.rt_laws.specs.Changes.{IsOfInput}
-use Rattle.rt_laws.proofs.Among.{Among, to_contains, from_contains, among_front, among_either, among_flat, among_filter_map}
-use Rattle.rt_laws.proofs.Plain.{AllOf, all_append, all_weaker, all_among}
 use Rattle.rt_laws.proofs.Shapes.{Fine, fine_for, Plain, Quiet, Shape, plain, joining, tracking}
 use Rattle.rt_laws.proofs.Marks.{answers_more, answers_none}
 use Rattle.rt_laws.proofs.Good.{serves_all}

@@ -4,6 +4,9 @@ use Rattle.std.specs.Prelude.{◌^◌, Contains, IsPermutation}
 use Rattle.std.specs.List.{filter}
 use Rattle.std.specs.Str.{bytes_eq}
 use Rattle.rt_value.specs.declared.row.Row.{Row}
+use Rattle.rt_value.proofs.Among.{Among, from_contains}
+use Rattle.rt_value.proofs.Plain.{AllOf, all_weaker}
+use Rattle.rt_value.proofs.Moves.{Moves, permuted}
 use Rattle.rt_catalog.specs.declared.catalog.Catalog.{Catalog}
 use Rattle.rt_entry.specs.declared.input.Input.{Input}
 use Rattle.rt_entry.specs.declared.input.Input.TheVariants.{Opened, Frame, Gone, Poll, Tick, Stop}
@@ -20,9 +23,6 @@ use Rattle.rt_laws.specs.After.{tracks_after, after, done_by}
 use Rattle.rt_laws.specs.Departures.{heard}
 use Rattle.rt_laws.specs.Follows.{IsOutside}
 use Rattle.rt_laws.specs.Members.{members_of_journal}
-use Rattle.rt_laws.proofs.Among.{Among, from_contains}
-use Rattle.rt_laws.proofs.Plain.{AllOf, all_weaker}
-use Rattle.rt_laws.proofs.Moves.{Moves, permuted}
 use Rattle.rt_laws.proofs.Metas.{read_again}
 use Rattle.rt_laws.proofs.Shapes.{AreApart}
 use Rattle.rt_laws.proofs.Sound.{members_in, members_apart}

@@ -4,13 +4,14 @@ use Rattle.std.specs.Prelude.{⊤, codes, All, slice_get, option_map, unwrap_or}
 use Rattle.std.specs.List.{filter_map, enumerate_from}
 use Rattle.std.proofs.lemmas.List.Elements.{All-nil, All-cons}
 use Rattle.rt_value.specs.Choice.{◌>>=◌, some_if}
-use Rattle.rt_json.specs.Grammar.{member}
+use Rattle.rt_value.proofs.Among.{Among, among_filter_map}
+use Rattle.rt_value.proofs.Plain.{AllOf, all_weaker, all_themselves}
 use Rattle.rt_json.specs.Trees.{field}
-use Rattle.rt_json.specs.Lookup.{last_named, members_of, member_of, row_members}
-use Rattle.rt_json.specs.declared.tree.Json.{Json, Null, Text, Row_of-Member, end_of-Member, more_of-Member, items-the_row-Member, items_hidden-the_row-Member-1}
-use Rattle.rt_json.specs.declared.tree.Json.TheBlock.{hidden-the_row-Member-1}
+use Rattle.rt_json.specs.Lookup.{last_named, member_of}
+use Rattle.rt_json.specs.declared.tree.Json.{Json, Null, Text}
 use Rattle.rt_json.specs.declared.tree.Json.TheVariants as j
 use Rattle.rt_json.specs.declared.tree.named.Member.{Member}
+use Rattle.rt_json.proofs.Lookups.{object_members, object_at}
 use Rattle.rt_catalog.specs.declared.catalog.Catalog.{Catalog}
 use Rattle.rt_catalog.specs.declared.catalog.Column.{Column}
 use Rattle.rt_catalog.specs.Access.{may_select, table_at, is_secured}
@@ -21,19 +22,6 @@ use Rattle.rt_change.specs.Verdicts.{writes, lacks_key, hides_key}
 use Rattle.rt_change.specs.Shape.{error_list, is_large, shown_columns, is_kept, field_of, record_of, is_key_column, old_columns, head, column_tree, records, refused, whole, shape_of}
 use Rattle.rt_entry.specs.declared.input.Settings.{Settings}
 use Rattle.rt_entry.specs.Access.{IsShownColumn, ShowsOnly, IsRecordName}
-use Rattle.rt_laws.proofs.Among.{Among, among_filter_map}
-use Rattle.rt_laws.proofs.Plain.{AllOf, all_weaker, all_themselves}
-
--- the members of an object
-row_is : {n : _} → (row : Row_of-Member n) → row_members row ≡ items-the_row-Member n row
-row_is end_of-Member = refl
-row_is (more_of-Member name value rest) = ap (λ (xs : List Member). member name value ∷ xs) (row_is rest)
-
-pub object_members : (ms : List Member) → members_of (j.Object ms) ≡ ms
-object_members ms = row_is (hidden-the_row-Member-1 ms) ∙ items_hidden-the_row-Member-1 ms
-
-pub object_at : (ms : List Member) (name : List ℕ) → member_of (j.Object ms) name ≡ last_named name ms
-object_at ms name = ap (last_named name) (object_members ms)
 
 -- a numbered element stands at its number
 numbered_at : {A : Type 0} (k : ℕ) (xs : List A) (n : ℕ × A) → Among (enumerate_from k xs) n → (i : ℕ) × (n.0 ≡ k + i) × (slice_get xs i ≡ Some n.1)

@@ -5,6 +5,8 @@ use Rattle.std.specs.List.{filter, filter_map, flat_map, enumerate_from}
 use Rattle.std.proofs.lemmas.Bool.Decides.{eqb_tells}
 use Rattle.rt_value.specs.declared.row.Row.{Row}
 use Rattle.rt_value.specs.Tables.{rows_of_table}
+use Rattle.rt_value.proofs.Among.{Among, to_contains, from_contains, among_flat, among_map, among_filter, among_filter_map}
+use Rattle.rt_value.proofs.Plain.{AllOf, all_weaker, all_themselves}
 use Rattle.rt_phx.specs.declared.message.Message.{Message}
 use Rattle.rt_filter.specs.declared.subscription.Subscription.{Subscription}
 use Rattle.rt_catalog.specs.declared.catalog.Catalog.{Catalog}
@@ -27,8 +29,6 @@ use Rattle.rt_entry.specs.Doings.{story, doings, subscriptions_of, subscriptions
 use Rattle.rt_entry.specs.Answers.{answer_of, answers_by, answers}
 use Rattle.rt_entry.specs.Access.{IsSentBy, IsDeliveredTo, IsDueBy}
 use Rattle.rt_laws.specs.Changes.{HasOneVerdict}
-use Rattle.rt_laws.proofs.Among.{Among, to_contains, from_contains, among_flat, among_map, among_filter, among_filter_map}
-use Rattle.rt_laws.proofs.Plain.{AllOf, all_weaker, all_themselves}
 use Rattle.rt_laws.proofs.Sound.{Shaped, members_in}
 use Rattle.rt_laws.proofs.Journals.{story_shaped}
 use Rattle.rt_laws.proofs.Unique.{same_member}

@@ -17,8 +17,8 @@ use Rattle.rt_json.specs.declared.tree.Json.TheVariants as j
 use Rattle.rt_json.specs.declared.tree.named.Member.{Member}
 use Rattle.rt_json.specs.Lookup.{last_named, or_else, members_of, member_of}
 use Rattle.std.specs.Str.{bytes_eq}
+use Rattle.rt_value.proofs.Plain.{Maybe}
 use Rattle.rt_json.proofs.Lookups.{object_members}
-use Rattle.rt_laws.proofs.Plain.{Maybe}
 use Rattle.rt_json.proofs.Hex.{low_range, high_range}
 use Rattle.rt_json.proofs.Utf8.{is_a_scalar}
 use Rattle.rt_json.proofs.WrittenUtf8.{one_byte}

@@ -4,6 +4,9 @@ use Rattle.std.specs.Prelude.{⊤, ◌^◌, codes, if◌then◌else◌}
 use Rattle.std.specs.List.{filter, flat_map, enumerate_from}
 use Rattle.std.specs.Str.{bytes_eq}
 use Rattle.rt_value.specs.declared.row.Row.{Row}
+use Rattle.rt_value.proofs.Among.{Among}
+use Rattle.rt_value.proofs.Plain.{AllOf, all_flat, all_every, filter_all}
+use Rattle.rt_value.proofs.Moves.{Moves}
 use Rattle.rt_phx.specs.declared.end.EndName.{EndName}
 use Rattle.rt_phx.specs.declared.end.EndName.TheVariants as end_name
 use Rattle.rt_filter.specs.declared.subscription.Subscription.{Subscription}
@@ -24,9 +27,6 @@ use Rattle.rt_entry.specs.Doings.{in_turn, channels_of, opening_in, end_of, end_
 use Rattle.rt_entry.specs.Presence.{Held, client_view, shown_meta}
 use Rattle.rt_laws.specs.After.{tracks_after}
 use Rattle.rt_laws.specs.Follows.{IsOutside}
-use Rattle.rt_laws.proofs.Among.{Among}
-use Rattle.rt_laws.proofs.Plain.{AllOf, all_flat, all_every, filter_all}
-use Rattle.rt_laws.proofs.Moves.{Moves}
 use Rattle.rt_laws.proofs.Shapes.{AreApart}
 use Rattle.rt_laws.proofs.Unique.{RisingMembers}
 use Rattle.rt_laws.proofs.Tracked.{Apart}

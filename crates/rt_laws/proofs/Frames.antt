@@ -5,6 +5,9 @@ use Rattle.std.specs.List.{filter, cons_option}
 use Rattle.std.specs.Str.{bytes_eq}
 use Rattle.std.proofs.lemmas.List.Elements.{filter-append, filter_map-append}
 use Rattle.std.proofs.lemmas.Slice.Eq.{bytes_eq-Decides}
+use Rattle.rt_value.proofs.Among.{Among}
+use Rattle.rt_value.proofs.Plain.{AllOf, Maybe, all_append, all_every, all_filter, all_map, all_weaker, all_among, all_themselves, any_append, filter_and, filter_alike, filter_all, find_of}
+use Rattle.rt_value.proofs.Moves.{Moves, then_to, moves_same}
 use Rattle.rt_json.specs.declared.tree.Json.{Json}
 use Rattle.rt_phx.specs.declared.message.Message.{Message}
 use Rattle.rt_phx.specs.declared.end.EndName.TheVariants as end_name
@@ -28,9 +31,6 @@ use Rattle.rt_entry.specs.Presence.{Held, after_message, client_view, shown_meta
 use Rattle.rt_laws.specs.After.{tracks_in, tracks_after}
 use Rattle.rt_laws.specs.Departures.{leave_for}
 use Rattle.rt_laws.specs.Views.{leaves_in, Fit}
-use Rattle.rt_laws.proofs.Among.{Among}
-use Rattle.rt_laws.proofs.Plain.{AllOf, Maybe, all_append, all_every, all_filter, all_map, all_weaker, all_among, all_themselves, any_append, filter_and, filter_alike, filter_all, find_of}
-use Rattle.rt_laws.proofs.Moves.{Moves, then_to, moves_same}
 use Rattle.rt_laws.proofs.Metas.{reads_difference}
 use Rattle.rt_laws.proofs.Shapes.{AreApart, Below, IsMade, room, join_made}
 use Rattle.rt_laws.proofs.Unique.{RisingMembers}

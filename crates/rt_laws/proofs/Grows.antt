@@ -5,6 +5,7 @@ use Rattle.std.specs.List.{filter, filter_map, flat_map, list_any, enumerate_fro
 use Rattle.std.proofs.lemmas.List.{map-append, reverse-append}
 use Rattle.std.proofs.lemmas.List.Elements.{filter-append}
 use Rattle.std.proofs.lemmas.List.Concat.{flat_map-append}
+use Rattle.rt_value.proofs.Plain.{AllOf, any_append, not_or, and_swap, filter_and, filter_same, filter_alike, map_same, map_map, filter_map_swap, reverse_short}
 use Rattle.rt_entry.specs.declared.story.Opening.{Opening}
 use Rattle.rt_entry.specs.declared.story.Channel.{Channel}
 use Rattle.rt_entry.specs.declared.story.Member.{Member}
@@ -12,7 +13,6 @@ use Rattle.rt_entry.specs.declared.story.Track.{Track}
 use Rattle.rt_entry.specs.declared.story.Part.{Part}
 use Rattle.rt_entry.specs.Story.{Line, Story, Now, Standing, now_of, opening_at, every_slot, moment_at, moment_after, joined, joined_by, departed, departed_in, renewed_by, first_or, has, members_at, member_in, claims_at, standing_of, ids_given, all_tracks, is_last, standing_tracks, present_at}
 use Rattle.rt_laws.specs.After.{opens_after, joins_of, remains, with_standing, renewed, new_member, members_after, tracks_in, outlasts, tracks_after, after}
-use Rattle.rt_laws.proofs.Plain.{AllOf, any_append, not_or, and_swap, filter_and, filter_same, filter_alike, map_same, map_map, filter_map_swap, reverse_short}
 
 first_or_append : {A : Type 0} (d : A) (xs ys : List A) → first_or d (xs ++ ys) ≡ first_or (first_or d ys) xs
 first_or_append d [] ys = refl

@@ -6,6 +6,8 @@ use Rattle.std.specs.Str.{bytes_eq}
 use Rattle.std.proofs.lemmas.Bool.Decides.{eqb_tells}
 use Rattle.std.proofs.lemmas.List.Elements.{filter_map-append}
 use Rattle.std.proofs.lemmas.Slice.Eq.{bytes_eq-Decides}
+use Rattle.rt_value.proofs.Among.{Among, from_contains, among_filter, filter_among}
+use Rattle.rt_value.proofs.Plain.{AllOf, all_filter, all_weaker, all_themselves, and_swap, filter_and, filter_same}
 use Rattle.rt_phx.specs.declared.message.Message.{Message}
 use Rattle.rt_phx.specs.declared.end.EndName.{EndName}
 use Rattle.rt_phx.specs.declared.end.EndName.TheVariants as end_name
@@ -25,8 +27,6 @@ use Rattle.rt_entry.specs.Doings.{in_turn, is_of_slot, is_on, channels_of, openi
 use Rattle.rt_entry.specs.Answers.{answer_of, answers_by}
 use Rattle.rt_entry.specs.Presence.{said_to}
 use Rattle.rt_laws.specs.Departures.{leave_for, found_by, heard}
-use Rattle.rt_laws.proofs.Among.{Among, from_contains, among_filter, filter_among}
-use Rattle.rt_laws.proofs.Plain.{AllOf, all_filter, all_weaker, all_themselves, and_swap, filter_and, filter_same}
 use Rattle.rt_laws.proofs.Shapes.{AreApart, eqb_same}
 use Rattle.rt_laws.proofs.Sound.{members_in, Shaped, members_apart}
 use Rattle.rt_laws.proofs.Unique.{RisingMembers, members_rising, same_member}

@@ -10,8 +10,8 @@ use Rattle.rt_entry.specs.Story.{members_at}
 use Rattle.rt_entry.specs.Doings.{story}
 use Rattle.rt_entry.specs.Machine.{start, run}
 use Rattle.rt_entry.specs.Presence.{client_view, shown_meta, present_on, TakenClientsAgree, GivenClientsAgree}
-use Rattle.rt_laws.proofs.Among.{from_contains}
-use Rattle.rt_laws.proofs.Moves.{permuted}
+use Rattle.rt_value.proofs.Among.{from_contains}
+use Rattle.rt_value.proofs.Moves.{permuted}
 use Rattle.rt_laws.proofs.Agree.{agrees, clients_agree}
 use Rattle.rt_laws.proofs.Since.{due_since, since_on}
 use Rattle.rt_laws.proofs.Within.{journal_within}

@@ -3,6 +3,7 @@ use Rattle.std.proofs.Common.{◌≡◌, ℕ, suc, Bool, true, false, List, [], 
 use Rattle.std.specs.Prelude.{⊤, IsUtf8, codes, nat_le, unwrap_or, option_map}
 use Rattle.std.specs.List.{AllByRecursion}
 use Rattle.rt_value.specs.Choice.{◌>>=◌, some_if}
+use Rattle.rt_value.proofs.Plain.{AllOf, Maybe}
 use Rattle.rt_json.specs.declared.tree.Json.{Json, Null, Num, Text, roll-Json}
 use Rattle.rt_json.specs.declared.tree.Json.TheOpen.{Json-F}
 use Rattle.rt_json.specs.declared.tree.Json.TheVariants.{outs-Text, outs-Num, rolls-Null, rolls-Bool, rolls-Num, rolls-Text, rolls-List, rolls-Object}
@@ -11,6 +12,7 @@ use Rattle.rt_json.specs.Fits.{FitsWithin, FitsOver}
 use Rattle.rt_json.specs.Lookup.{member_of}
 use Rattle.rt_json.specs.Machine.{tree_of}
 use Rattle.rt_json.specs.Trees.{text_of, list_of, is_object}
+use Rattle.rt_json.proofs.Lookups.{list_items}
 use Rattle.rt_json.proofs.Meaning.{tree_found}
 use Rattle.rt_phx.specs.declared.message.Message.{Message}
 use Rattle.rt_phx.specs.declared.message.Version.{Version}
@@ -18,9 +20,7 @@ use Rattle.rt_phx.specs.declared.message.Version.TheVariants.{V1, V2}
 use Rattle.rt_phx.specs.Fits.{IsRef}
 use Rattle.rt_phx.specs.Frame.{ref_of, no_members, message, message_of, message_of_object, message_of_five, message_of_tree, frame_limit}
 use Rattle.rt_phx.specs.Joins.{Asked, Config, section, switch, key_text, word, asked_in, each_asked, all_asked, config_of}
-use Rattle.rt_phx.proofs.Reading.{list_items}
 use Rattle.rt_entry.specs.Readable.{IsReadable}
-use Rattle.rt_laws.proofs.Plain.{AllOf, Maybe}
 use Rattle.rt_laws.proofs.Fitting.{by_level, null_fits, object_fits, read_fits, member_fits_in, text_in_utf8}
 use Rattle.rt_laws.proofs.Texts as texts
 

@@ -1,7 +1,6 @@
 mod Accepting
 mod Agree
 mod Allowed
-pub mod Among
 mod Clients
 mod Columns
 mod Doing
@@ -17,16 +16,13 @@ mod Hears
 mod Holding
 mod Incoming
 pub mod Journals
-mod Keys
 pub mod Lists
 pub mod Marks
 mod Metas
 mod Moments
-mod Moves
 mod Once
 mod Opens
 mod Outgoing
-pub mod Plain
 mod Present
 mod Read
 mod Recorded

@@ -12,22 +12,21 @@ use Rattle.std.proofs.lemmas.List.{map-append}
 use Rattle.std.proofs.lemmas.Slice.Eq.{bytes_eq-Decides}
 use Rattle.rt_value.specs.Choice.{◌>>=◌}
 use Rattle.rt_value.specs.Ordered.{in_order}
-use Rattle.rt_json.specs.declared.tree.Json.{Json, Text, Row_of-Json, end_of-Json, more_of-Json, items-the_row-Json, items_hidden-the_row-Json-0}
-use Rattle.rt_json.specs.declared.tree.Json.TheBlock.{hidden-the_row-Json-0}
+use Rattle.rt_value.proofs.Plain.{AllOf, all_append, all_filter, filter_alike, filter_map_swap, map_map}
+use Rattle.rt_value.proofs.Moves.{Moves, then_to, moves_same, moves_map, moves_filter, moves_left, moves_right, moves_any, permuted}
+use Rattle.rt_value.proofs.Keys.{IsIn, ordered_rises, ordered_has, of_key, group, grouped}
+use Rattle.rt_json.specs.declared.tree.Json.{Json, Text}
 use Rattle.rt_json.specs.declared.tree.Json.TheVariants as j
 use Rattle.rt_json.specs.declared.tree.named.Member.{Member}
 use Rattle.rt_json.specs.Lookup.{or_else, last_named, members_of}
-use Rattle.rt_json.specs.Trees.{field, list_of, text_of, row_items}
+use Rattle.rt_json.specs.Trees.{field, list_of, text_of}
+use Rattle.rt_json.proofs.Lookups.{object_members, object_at, list_items}
 use Rattle.rt_phx.specs.Frame.{no_members}
 use Rattle.rt_entry.specs.declared.story.Channel.{Channel}
 use Rattle.rt_entry.specs.declared.story.Track.{Track}
 use Rattle.rt_entry.specs.Messages.{meta_tree, metas_of, metas_tree, presence_state, presence_diff}
 use Rattle.rt_entry.specs.Presence.{Held, metas_under, metas_in, reference_of, part_of, is_among, after_message, client_view, shown_meta}
 use Rattle.rt_laws.specs.Views.{Difference, leaves_in, after_differences, Fit, AllFit}
-use Rattle.rt_laws.proofs.Plain.{AllOf, all_append, all_filter, filter_alike, filter_map_swap, map_map}
-use Rattle.rt_laws.proofs.Moves.{Moves, then_to, moves_same, moves_map, moves_filter, moves_left, moves_right, moves_any, permuted}
-use Rattle.rt_laws.proofs.Keys.{IsIn, ordered_rises, ordered_has, of_key, group, grouped}
-use Rattle.rt_laws.proofs.Columns.{object_members, object_at}
 
 -- lists of lists
 
@@ -71,14 +70,6 @@ any_of_map p f (x ∷ xs) = ap (λ b. p (f x) || b) (any_of_map p f xs)
 any_alike : {A : Type 0} (p q : A → Bool) (xs : List A) → AllOf (λ x. p x ≡ q x) xs → list_any p xs ≡ list_any q xs
 any_alike p q [] e = refl
 any_alike p q (x ∷ xs) e = ap (λ b. b || list_any p xs) e.0 ∙ ap (λ b. q x || b) (any_alike p q xs e.1)
-
--- a list's items
-rows_are : {n : _} → (row : Row_of-Json n) → row_items row ≡ items-the_row-Json n row
-rows_are end_of-Json = refl
-rows_are (more_of-Json tree rest) = ap (λ (xs : List Json). tree ∷ xs) (rows_are rest)
-
-pub list_items : (xs : List Json) → list_of (j.List xs) ≡ Some xs
-list_items xs = ap (λ (ys : List Json). Some ys) (rows_are (hidden-the_row-Json-0 xs) ∙ items_hidden-the_row-Json-0 xs)
 
 -- the metas under a key
 

@@ -1,6 +1,7 @@
 -- Members by their number, and by their slot and topic.
 use Rattle.std.proofs.Common.{◌≡◌, List}
 use Rattle.std.specs.Prelude.{Contains}
+use Rattle.rt_value.proofs.Among.{from_contains}
 use Rattle.rt_catalog.specs.declared.catalog.Catalog.{Catalog}
 use Rattle.rt_entry.specs.declared.input.Input.{Input}
 use Rattle.rt_entry.specs.declared.input.Settings.{Settings}
@@ -8,7 +9,6 @@ use Rattle.rt_entry.specs.declared.story.Member.{Member}
 use Rattle.rt_entry.specs.Story.{now_of}
 use Rattle.rt_entry.specs.Doings.{story}
 use Rattle.rt_laws.specs.Members.{members_of_journal}
-use Rattle.rt_laws.proofs.Among.{from_contains}
 use Rattle.rt_laws.proofs.Sound.{members_in, members_apart}
 use Rattle.rt_laws.proofs.Unique.{same_member}
 use Rattle.rt_laws.proofs.Journals.{story_shaped}

@@ -4,6 +4,8 @@ use Rattle.std.specs.Prelude.{⊤, ◌==◌, slice_get, codes, if◌then◌else�
 use Rattle.std.specs.List.{filter, flat_map, enumerate_from}
 use Rattle.std.proofs.lemmas.Bool.Decides.{eqb_tells}
 use Rattle.std.proofs.lemmas.List.Elements.{filter_map-append}
+use Rattle.rt_value.proofs.Among.{Among, filter_among}
+use Rattle.rt_value.proofs.Plain.{AllOf, all_append, all_map, any_append}
 use Rattle.rt_phx.specs.declared.end.EndName.{EndName}
 use Rattle.rt_phx.specs.declared.end.EndName.TheVariants as end_name
 use Rattle.rt_entry.specs.declared.input.Input.{Input}
@@ -15,8 +17,6 @@ use Rattle.rt_entry.specs.declared.story.Part.TheVariants.{Opens, Ends, Tells, J
 use Rattle.rt_entry.specs.Story.{Now, has, departed_by, departed_in, heard_in, opened_after}
 use Rattle.rt_entry.specs.Doings.{in_turn, or_none, opening_in, is_of_slot, channels_of, track_of, watches, diff_to, diffs, leave_diffs, depart, end_of, end_if_open, close, fail, open_parts, is_idle, has_run_out, tick_parts, departs_of, stop_parts}
 use Rattle.rt_laws.specs.After.{joins_of, opens_after, after}
-use Rattle.rt_laws.proofs.Among.{Among, filter_among}
-use Rattle.rt_laws.proofs.Plain.{AllOf, all_append, all_map, any_append}
 use Rattle.rt_laws.proofs.Shapes.{eqb_same, or_left}
 use Rattle.rt_laws.proofs.Sound.{has_append}
 use Rattle.rt_laws.proofs.Turns.{has_turn, or_second}

@@ -9,6 +9,7 @@ use Rattle.std.specs.declared.cmp.Ordering.{Ordering}
 use Rattle.std.specs.declared.cmp.Ordering.TheVariants.{Less, Equal, Greater}
 use Rattle.std.specs.Cmp.Lexicographic.{slice_cmp}
 use Rattle.rt_value.specs.Ordered.{inserted_by, inserted, in_order}
+use Rattle.rt_value.proofs.Plain.{AllOf, Maybe, all_append, all_map_of, all_filter}
 use Rattle.rt_json.specs.declared.tree.Json.{Json, Text}
 use Rattle.rt_json.specs.declared.tree.Json.TheVariants as j
 use Rattle.rt_json.specs.declared.tree.named.Member.{Member}
@@ -26,7 +27,6 @@ use Rattle.rt_entry.specs.declared.story.Track.{Track}
 use Rattle.rt_entry.specs.declared.entry.ChannelView.{ChannelView}
 use Rattle.rt_entry.specs.Messages.{channel_message, close_message, channel_name, subscribed_message, failed_message, text_field, binding_tree, joined_response, meta_tree, metas_of, metas_tree, presence_state, presence_diff, broadcast_message, change_message}
 use Rattle.rt_entry.specs.Readable.{IsReadable}
-use Rattle.rt_laws.proofs.Plain.{AllOf, Maybe, all_append, all_map_of, all_filter}
 use Rattle.rt_laws.proofs.Fitting.{MemberFits, text_fits, number_fits, list_fits, object_fits, fits_up, members_fits}
 use Rattle.rt_laws.proofs.Texts.{is_ascii_byte, word, decimal_utf8, decimal_number}
 

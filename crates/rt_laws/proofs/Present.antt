@@ -3,6 +3,8 @@ use Rattle.std.proofs.Common.{◌≡◌, ℕ, suc, ◌<◌, Bool, true, false, �
 use Rattle.std.specs.Prelude.{◌==◌, Contains}
 use Rattle.std.specs.List.{list_any}
 use Rattle.std.proofs.lemmas.Bool.Decides.{eqb_tells}
+use Rattle.rt_value.proofs.Among.{Among, from_contains, to_contains, among_filter, map_among}
+use Rattle.rt_value.proofs.Plain.{all_among}
 use Rattle.rt_catalog.specs.declared.catalog.Catalog.{Catalog}
 use Rattle.rt_entry.specs.declared.input.Input.{Input}
 use Rattle.rt_entry.specs.declared.input.Settings.{Settings}
@@ -12,8 +14,6 @@ use Rattle.rt_entry.specs.declared.story.Track.{Track}
 use Rattle.rt_entry.specs.Story.{Story, now_of, members_at, member_in, all_tracks, standing_tracks, present_at}
 use Rattle.rt_entry.specs.Doings.{story}
 use Rattle.rt_laws.specs.Tracks.{tracks_of_journal, IsMembers}
-use Rattle.rt_laws.proofs.Among.{Among, from_contains, to_contains, among_filter, map_among}
-use Rattle.rt_laws.proofs.Plain.{all_among}
 use Rattle.rt_laws.proofs.Sound.{members_in}
 use Rattle.rt_laws.proofs.Tracked.{is_present}
 use Rattle.rt_laws.proofs.Journals.{story_shaped}

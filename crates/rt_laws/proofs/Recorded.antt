@@ -28,7 +28,7 @@ use Rattle.rt_change.specs.declared.fault.ChangeFault.{ChangeFault}
 use Rattle.rt_change.specs.declared.fault.ChangeFault.TheVariants.{KeyDiffers}
 use Rattle.rt_change.specs.Binding as binding
 use Rattle.rt_change.specs.Binding.{IsOfLine, or_fault, tree_for, fields_fit, trees_for, cells_for, verb_of, keys_differ, key_given, new_fields, old_fields, used, change_with, bound_to, bound_at, change_of}
-use Rattle.rt_laws.proofs.Plain.{AllOf, all_append, all_map, Maybe, find_of}
+use Rattle.rt_value.proofs.Plain.{AllOf, all_append, all_map, Maybe, find_of}
 use Rattle.rt_laws.proofs.Fitting.{read_fits, member_fits_in}
 use Rattle.rt_laws.proofs.Moments.{moment_utf8}
 use Rattle.rt_laws.proofs.Incoming.{bind_of}

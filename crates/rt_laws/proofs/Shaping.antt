@@ -3,6 +3,7 @@ use Rattle.std.proofs.Common.{ℕ, zero, suc, ◌+◌, Bool, true, false, not, �
 use Rattle.std.specs.Prelude.{IsUtf8, codes, slice_get, unwrap_or, option_map, if◌then◌else◌}
 use Rattle.std.specs.List.{filter_map, cons_option, enumerate_from, AllByRecursion}
 use Rattle.rt_value.specs.Choice.{some_if}
+use Rattle.rt_value.proofs.Plain.{AllOf, Maybe, all_append, all_map_of}
 use Rattle.rt_json.specs.declared.tree.Json.{Json, Null, Text}
 use Rattle.rt_json.specs.declared.tree.Json.TheVariants as j
 use Rattle.rt_json.specs.Fits.{FitsWithin}
@@ -16,7 +17,6 @@ use Rattle.rt_change.specs.declared.change.Verb.TheVariants.{Insert, Update, Del
 use Rattle.rt_change.specs.declared.change.Change.{Change}
 use Rattle.rt_change.specs.Verdicts.{writes, lacks_key, hides_key}
 use Rattle.rt_change.specs.Shape.{verb_name, error_list, is_large, shown_columns, is_kept, field_of, record_of, is_key_column, old_columns, head, column_tree, records, refused, whole, shape_of}
-use Rattle.rt_laws.proofs.Plain.{AllOf, Maybe, all_append, all_map_of}
 use Rattle.rt_laws.proofs.Fitting.{MemberFits, null_fits, text_fits, list_fits, object_fits}
 use Rattle.rt_laws.proofs.Texts.{word}
 use Rattle.rt_laws.proofs.Incoming.{bind_of, if_of, unwrap_of}

@@ -6,6 +6,8 @@ use Rattle.std.specs.Str.{bytes_eq}
 use Rattle.std.proofs.lemmas.Bool.Decides.{leb_tells}
 use Rattle.std.proofs.lemmas.List.{map-append}
 use Rattle.std.proofs.lemmas.List.Elements.{filter-append}
+use Rattle.rt_value.proofs.Among.{Among}
+use Rattle.rt_value.proofs.Plain.{AllOf}
 use Rattle.rt_phx.specs.declared.message.Message.{Message}
 use Rattle.rt_phx.specs.declared.message.Version.{Version}
 use Rattle.rt_phx.specs.declared.message.Version.TheVariants.{V1}
@@ -29,8 +31,6 @@ use Rattle.rt_entry.specs.Answers.{Answers, answer_of, at_slot, told, spell, ans
 use Rattle.rt_entry.specs.Presence.{said_to, said_by, said_since, told_since, as_items, end_count, last_items}
 use Rattle.rt_laws.specs.After.{done_by}
 use Rattle.rt_laws.specs.Departures.{heard}
-use Rattle.rt_laws.proofs.Among.{Among}
-use Rattle.rt_laws.proofs.Plain.{AllOf}
 use Rattle.rt_laws.proofs.Marks.{told_append, answers_more}
 use Rattle.rt_laws.proofs.Opens.{Spares}
 use Rattle.rt_laws.proofs.Agree.{Either, either, open_slots, open_channel, none_first, joins_numbered, member_number}

@@ -5,6 +5,8 @@ use Rattle.std.specs.List.{filter, filter_map, flat_map, list_any}
 use Rattle.std.proofs.lemmas.Bool.Decides.{nat_tests, eqb_tells}
 use Rattle.std.proofs.lemmas.List.Concat.{flat_map-append}
 use Rattle.std.proofs.lemmas.List.Elements.{filter_map-append}
+use Rattle.rt_value.proofs.Among.{Among, among_either, among_filter, among_map, map_among}
+use Rattle.rt_value.proofs.Plain.{AllOf, all_among, all_append, all_filter, all_map_of, all_weaker, any_append}
 use Rattle.rt_entry.specs.declared.story.Channel.{Channel}
 use Rattle.rt_entry.specs.declared.story.Member.{Member}
 use Rattle.rt_entry.specs.declared.story.Track.{Track}
@@ -12,8 +14,6 @@ use Rattle.rt_entry.specs.declared.story.Part.{Part}
 use Rattle.rt_entry.specs.declared.story.Part.TheVariants.{Opens, Ends, Tells, Joins, Renews, Tracks, Untracks, Departs}
 use Rattle.rt_entry.specs.Story.{Line, Story, joined, joined_by, departed, departed_by, departed_in, renewed_by, first_or, has, members_at, member_in, claims_at, standing_of, tracked_by, all_tracks, is_last, standing_tracks}
 use Rattle.rt_laws.specs.After.{joins_of, new_member, with_standing, tracks_in}
-use Rattle.rt_laws.proofs.Among.{Among, among_either, among_filter, among_map, map_among}
-use Rattle.rt_laws.proofs.Plain.{AllOf, all_among, all_append, all_filter, all_map_of, all_weaker, any_append}
 use Rattle.rt_laws.proofs.Shapes.{Plain, Quiet, Below, Shape, plain, joining, tracking, MakesRoom, AreApart, IsOfMember, fine_for}
 use Rattle.rt_laws.proofs.Grows.{Tagged, is_held, IsSound, remains_by, joined_grows, members_grow}
 

@@ -7,6 +7,9 @@ use Rattle.std.proofs.lemmas.List.Concat.{flat_map-append}
 use Rattle.std.proofs.lemmas.List.Elements.{filter_map-append}
 use Rattle.std.proofs.lemmas.Slice.Eq.{bytes_eq-Decides}
 use Rattle.rt_value.specs.declared.row.Row.{Row}
+use Rattle.rt_value.proofs.Among.{Among}
+use Rattle.rt_value.proofs.Plain.{AllOf, all_append, all_flat, all_map, and_swap, filter_and, filter_same}
+use Rattle.rt_value.proofs.Moves.{Moves}
 use Rattle.rt_phx.specs.declared.message.Message.{Message}
 use Rattle.rt_phx.specs.declared.end.EndName.TheVariants as end_name
 use Rattle.rt_phx.specs.Frame.{message_of, no_members}
@@ -33,9 +36,6 @@ use Rattle.rt_entry.specs.Joining.{Checked, channel_of_join, renewal_of}
 use Rattle.rt_entry.specs.Doings.{tell, in_turn, opening_in, channel_on, track_of, leave_diffs, end_of, end_if_open, close, tell_if, open_parts, has_bindings, present_on, accept_parts, join_result_parts, others, renewal_parts, gets_broadcast, broadcast_part, broadcast_parts, track_by, untrack_part, is_shut, tick_parts, stop_parts, subscriptions, view_of, opening_of, join_over_former, join_parts, ask_parts, channel_parts, message_parts, frame_parts, gets, change_parts, change_parts_to, change_parts_to_all, poll_parts, doings}
 use Rattle.rt_entry.specs.Presence.{Held, metas_in, client_view, shown_meta}
 use Rattle.rt_laws.specs.After.{joins_of, tracks_in, tracks_after}
-use Rattle.rt_laws.proofs.Among.{Among}
-use Rattle.rt_laws.proofs.Plain.{AllOf, all_append, all_flat, all_map, and_swap, filter_and, filter_same}
-use Rattle.rt_laws.proofs.Moves.{Moves}
 use Rattle.rt_laws.proofs.Metas.{read_again}
 use Rattle.rt_laws.proofs.Shapes.{AreApart, Below, IsMade, Plain, join_made, eqb_same, plain_end, plain_end_if, plain_open, plain_ticks, plain_stop}
 use Rattle.rt_laws.proofs.Sound.{plain_joins}

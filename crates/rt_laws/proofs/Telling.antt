@@ -19,9 +19,9 @@ use Rattle.rt_entry.specs.Answers.{answer_of, at_slot, told, answers_by, answers
 use Rattle.rt_entry.specs.Presence.{said_by, said_since}
 use Rattle.rt_laws.specs.After.{joins_of, remains, renewed, new_member, tracks_in, outlasts, after, done_by}
 use Rattle.rt_entry.specs.Readable.{payload_levels, IsReadable}
-use Rattle.rt_laws.proofs.Among.{from_contains}
+use Rattle.rt_value.proofs.Among.{from_contains}
 use Rattle.rt_laws.proofs.Clients.{story_length}
-use Rattle.rt_laws.proofs.Plain.{AllOf, all_among, all_append, all_map_of, all_filter, Maybe}
+use Rattle.rt_value.proofs.Plain.{AllOf, all_among, all_append, all_map_of, all_filter, Maybe}
 use Rattle.rt_laws.proofs.Journals.{line_of, shape_next, story_shaped, story_grows}
 use Rattle.rt_laws.proofs.Sound.{joins_well}
 use Rattle.rt_laws.proofs.Fitting.{recursed_more}

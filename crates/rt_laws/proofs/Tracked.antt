@@ -2,13 +2,13 @@
 use Rattle.std.proofs.Common.{◌≡◌, ℕ, ◌<◌, Bool, true, false, ◌||◌, not, List, [], ◌∷◌, ◌++◌, length, Option, Some, sym, ap, subst, ◌∙◌, append-nil, arith, inl, inr}
 use Rattle.std.specs.Prelude.{◌==◌}
 use Rattle.std.specs.List.{filter, list_any}
+use Rattle.rt_value.proofs.Among.{Among, among_left, among_either, among_filter, among_map}
+use Rattle.rt_value.proofs.Plain.{AllOf, all_append, all_filter, all_weaker, all_among}
 use Rattle.rt_entry.specs.declared.story.Channel.{Channel}
 use Rattle.rt_entry.specs.declared.story.Member.{Member}
 use Rattle.rt_entry.specs.declared.story.Track.{Track}
 use Rattle.rt_entry.specs.Story.{Line, Story, joined, departed, has, members_at, member_in, all_tracks, is_last, standing_tracks, present_at}
 use Rattle.rt_laws.specs.After.{joins_of, tracks_in}
-use Rattle.rt_laws.proofs.Among.{Among, among_left, among_either, among_filter, among_map}
-use Rattle.rt_laws.proofs.Plain.{AllOf, all_append, all_filter, all_weaker, all_among}
 use Rattle.rt_laws.proofs.Shapes.{IsOfMember, fine_for, eqb_same}
 use Rattle.rt_laws.proofs.Grows.{standing_append, joined_grows}
 use Rattle.rt_laws.proofs.Sound.{Shaped, members_in, joins_well, all_tagged, all_tracks_more, no_tracks, shape_tracks}

@@ -7,6 +7,9 @@ use Rattle.std.proofs.lemmas.Bool.Decides.{eqb_tells}
 use Rattle.std.proofs.lemmas.List.Concat.{flat_map-append}
 use Rattle.std.proofs.lemmas.List.Elements.{filter_map-append}
 use Rattle.std.proofs.lemmas.Slice.Eq.{bytes_eq-Decides}
+use Rattle.rt_value.proofs.Among.{Among}
+use Rattle.rt_value.proofs.Plain.{AllOf, all_append, all_filter, all_weaker, all_themselves, all_every, all_among, any_append, filter_and, filter_same, filter_alike}
+use Rattle.rt_value.proofs.Moves.{Moves, then_to, moves_same}
 use Rattle.rt_phx.specs.declared.message.Message.{Message}
 use Rattle.rt_phx.specs.declared.end.EndName.{EndName}
 use Rattle.rt_entry.specs.declared.story.Channel.{Channel}
@@ -21,9 +24,6 @@ use Rattle.rt_entry.specs.Presence.{Held, metas_in, after_difference, client_vie
 use Rattle.rt_laws.specs.After.{tracks_in}
 use Rattle.rt_laws.specs.Departures.{leave_for}
 use Rattle.rt_laws.specs.Views.{leaves_in}
-use Rattle.rt_laws.proofs.Among.{Among}
-use Rattle.rt_laws.proofs.Plain.{AllOf, all_append, all_filter, all_weaker, all_themselves, all_every, all_among, any_append, filter_and, filter_same, filter_alike}
-use Rattle.rt_laws.proofs.Moves.{Moves, then_to, moves_same}
 use Rattle.rt_laws.proofs.Metas.{reads_difference}
 use Rattle.rt_laws.proofs.Shapes.{AreApart}
 use Rattle.rt_laws.proofs.Unique.{RisingMembers}

@@ -2,12 +2,12 @@
 use Rattle.std.proofs.Common.{◌≡◌, ◌⊎◌, ℕ, ◌<◌, Bool, true, false, not, cond, List, [], ◌∷◌, ◌++◌, map, length, refl, sym, ap, subst, ◌∙◌, arith, inl, inr}
 use Rattle.std.specs.Prelude.{⊤}
 use Rattle.std.specs.List.{filter}
+use Rattle.rt_value.proofs.Among.{Among}
+use Rattle.rt_value.proofs.Plain.{AllOf, all_append, all_filter, all_map_of, all_weaker, all_among}
 use Rattle.rt_entry.specs.declared.story.Channel.{Channel}
 use Rattle.rt_entry.specs.declared.story.Member.{Member}
 use Rattle.rt_entry.specs.Story.{Story, joined, departed, has, members_at, member_in}
 use Rattle.rt_laws.specs.After.{joins_of}
-use Rattle.rt_laws.proofs.Among.{Among}
-use Rattle.rt_laws.proofs.Plain.{AllOf, all_append, all_filter, all_map_of, all_weaker, all_among}
 use Rattle.rt_laws.proofs.Grows.{joined_grows}
 use Rattle.rt_laws.proofs.Sound.{Shaped, members_in, IsBelow, joined_below, joins_well}
 

@@ -2,13 +2,12 @@
 use Rattle.std.proofs.Common.{◌≡◌, ℕ, List, [], ◌∷◌, ◌++◌, Option, Some, None, refl, ap, sym, ◌∙◌}
 use Rattle.std.specs.Prelude.{codes}
 use Rattle.rt_value.specs.Choice.{◌>>=◌}
-use Rattle.rt_json.specs.declared.tree.Json.{Json, Row_of-Json, end_of-Json, more_of-Json, items-the_row-Json, items_hidden-the_row-Json-0}
-use Rattle.rt_json.specs.declared.tree.Json.TheBlock.{hidden-the_row-Json-0}
+use Rattle.rt_json.specs.declared.tree.Json.{Json}
 use Rattle.rt_json.specs.declared.tree.Json.TheVariants as j
 use Rattle.rt_json.specs.declared.tree.named.Member.{Member}
 use Rattle.rt_json.specs.Lookup.{last_named, or_else}
-use Rattle.rt_json.specs.Trees.{text_of, list_of, row_items}
-use Rattle.rt_json.proofs.Lookups.{object_members}
+use Rattle.rt_json.specs.Trees.{text_of, list_of}
+use Rattle.rt_json.proofs.Lookups.{object_members, list_items}
 use Rattle.rt_phx.specs.declared.message.Message.{Message}
 use Rattle.rt_phx.specs.declared.parts.Parts.{Parts}
 use Rattle.rt_phx.specs.Frame.{message, message_of_object, message_of_five, ref_of}
@@ -41,13 +40,6 @@ among_more ms m =
 -- an object's message is that of its parts
 pub object_says : (ms : List Member) → message_of_object (j.Object ms) ≡ message_of_parts (parts_among ms)
 object_says ms = ap (λ (xs : List Member). message_of_parts (parts_among xs)) (object_members ms)
-
-row_is : {n : _} → (row : Row_of-Json n) → row_items row ≡ items-the_row-Json n row
-row_is end_of-Json = refl
-row_is (more_of-Json tree rest) = ap (λ (xs : List Json). tree ∷ xs) (row_is rest)
-
-pub list_items : (xs : List Json) → list_of (j.List xs) ≡ Some xs
-list_items xs = ap (λ (ys : List Json). Some ys) (row_is (hidden-the_row-Json-0 xs) ∙ items_hidden-the_row-Json-0 xs)
 
 -- the four forms may be asked in whatever order
 in_order : (join_ref reference : Option Json) (topic event : Option (List ℕ)) (payload : Json)

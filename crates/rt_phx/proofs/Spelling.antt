@@ -10,12 +10,13 @@ use Rattle.rt_json.specs.Fits.{FitsWithin, FitsOver}
 use Rattle.rt_json.specs.Grammar.{IsJson, max_levels}
 use Rattle.rt_json.specs.Trees.{field}
 use Rattle.rt_json.specs.Written.{written, written_byte, quoted}
+use Rattle.rt_json.proofs.Lookups.{list_items}
 use Rattle.rt_json.proofs.Spelled.{object_written, list_written}
 use Rattle.rt_phx.specs.declared.message.Message.{Message}
 use Rattle.rt_phx.specs.declared.message.Version.TheVariants.{V1, V2}
 use Rattle.rt_phx.specs.Frame.{IsMessage, ref_of, message, message_of_five, spelled, tree_of_message}
 use Rattle.rt_phx.specs.Fits.{IsRef, FitsFrame}
-use Rattle.rt_phx.proofs.Reading.{object_says, list_items}
+use Rattle.rt_phx.proofs.Reading.{object_says}
 
 -- four pieces and five, one behind the other
 four_in_row : (n1 n2 n3 n4 a b c d last : List ℕ)

@@ -4,6 +4,7 @@ use Rattle.std.specs.Prelude.{⊤, ◌==◌, nat_le}
 use Rattle.std.specs.List.{flat_map}
 use Rattle.std.proofs.lemmas.Bool.Decides.{nat_tests, eqb_tells}
 use Rattle.std.proofs.lemmas.List.{drop_all}
+use Rattle.rt_value.proofs.Plain.{AllOf, all_append, all_map}
 use Rattle.rt_catalog.specs.declared.catalog.Catalog.{Catalog}
 use Rattle.rt_entry.specs.declared.input.Settings.{Settings}
 use Rattle.rt_entry.specs.declared.input.Step.{Step}
@@ -14,7 +15,6 @@ use Rattle.rt_entry.specs.Answers.{lane_marks}
 use Rattle.rt_entry.specs.Machine.{Slot, Lane, World, Placed, Outcome, done, empty, full, with_at, with_slot, with_lane, with_given, with_cut, outbox, messages_in, is_message, pending, is_full_for, push, pop, step_of, run}
 use Rattle.rt_script.specs.Running.{every_lane, round, does_nothing, Drains, still, again}
 use Rattle.rt_laws.proofs.Lists.{drop_within}
-use Rattle.rt_laws.proofs.Plain.{AllOf, all_append, all_map}
 use Rattle.rt_laws.proofs.Good.{IsGood, with_all, step_good}
 
 -- nothing was cut and all that was given was taken away

@@ -4,6 +4,8 @@ use Rattle.std.specs.Prelude.{⊤, ◌==◌}
 use Rattle.std.specs.List.{flat_map, list_any, range_with_len}
 use Rattle.std.proofs.lemmas.Bool.Decides.{eqb_tells}
 use Rattle.std.proofs.lemmas.Nat.{mod_below}
+use Rattle.rt_value.proofs.Among.{Among, among_left, among_right, map_among}
+use Rattle.rt_value.proofs.Plain.{AllOf, all_append, all_map, all_flat, all_among}
 use Rattle.rt_catalog.specs.declared.catalog.Catalog.{Catalog}
 use Rattle.rt_entry.specs.declared.input.Settings.{Settings}
 use Rattle.rt_entry.specs.declared.input.Step.{Step}
@@ -13,8 +15,6 @@ use Rattle.rt_entry.specs.Story.{every_slot, slot_count}
 use Rattle.rt_entry.specs.Answers.{lane_marks, due}
 use Rattle.rt_entry.specs.Machine.{Lane, World, Placed, Outcome, done, empty, full, with_slot, with_lane, with_given, with_cut, outbox, pending, send, work, is_full_for, push, pop, step_of, run, shown, lane_of, IsAtRest}
 use Rattle.rt_script.specs.Running.{is_done, every_lane, round, outcomes, does_nothing}
-use Rattle.rt_laws.proofs.Among.{Among, among_left, among_right, map_among}
-use Rattle.rt_laws.proofs.Plain.{AllOf, all_append, all_map, all_flat, all_among}
 use Rattle.rt_laws.proofs.Given.{shown_uncut}
 use Rattle.rt_laws.proofs.Good.{IsGood, good_serves}
 use Rattle.rt_plain.proofs.Calm.{CalmWorld, by_test, has_room}

@@ -7,6 +7,9 @@ use Rattle.std.proofs.lemmas.List.Elements.{filter-append}
 use Rattle.std.specs.Ordering.{is_lt}
 use Rattle.std.specs.Str.{bytes_eq}
 use Rattle.std.proofs.lemmas.Bool.Decides.{Decides-eqb}
+use Rattle.rt_value.proofs.Among.{Among, among_filter}
+use Rattle.rt_value.proofs.Plain.{all_themselves, all_weaker, filter_alike, filter_map_swap, filter_and, filter_same, and_swap}
+use Rattle.rt_value.proofs.Moves.{Moves, none, skip, swap, then_to, moves_same, moves_map, moves_filter, moves_back, moves_middle, permuted}
 use Rattle.rt_presence.specs.declared.tracks.Place.{Place}
 use Rattle.rt_presence.specs.declared.differences.Diff.{Diff}
 use Rattle.rt_presence.specs.Tracks.{Standing, track_cmp, is_of, put, track_of, without_channel, meta_of, joining, leaving}
@@ -15,9 +18,6 @@ use Rattle.rt_presence.specs.Trees.{Held, shown, on_topic, difference_tree, join
 use Rattle.rt_presence.specs.Calls.{Call, tracks, ends, after_calls, is_by}
 use Rattle.rt_presence.specs.Client.{reference_of, is_among, after_difference, answered, client_view, IsAfter, AreNumbered, ClientsAgree}
 use Rattle.rt_presence.proofs.Orders.{of_place, at_place}
-use Rattle.rt_presence.proofs.Among.{Among, among_filter}
-use Rattle.rt_presence.proofs.Plain.{all_themselves, all_weaker, filter_alike, filter_map_swap, filter_and, filter_same, and_swap}
-use Rattle.rt_presence.proofs.Moves.{Moves, none, skip, swap, then_to, moves_same, moves_map, moves_filter, moves_back, moves_middle, permuted}
 use Rattle.rt_presence.proofs.Places.{none_found}
 use Rattle.rt_presence.proofs.Stands.{put_only, only_stay, Put, flip, same_bool}
 use Rattle.rt_presence.proofs.Places.{not_true}

@@ -5,6 +5,7 @@ use Rattle.std.specs.BTreeMap.{insert_entry, is_at}
 use Rattle.std.specs.Ordering.{is_eq}
 use Rattle.std.proofs.lemmas.Cmp.{tied_itself}
 use Rattle.std.proofs.lemmas.Map.{none_passes_from_lookup}
+use Rattle.rt_value.proofs.Plain.{AllOf, all_filter, all_every}
 use Rattle.rt_json.specs.declared.tree.Json.{Json}
 use Rattle.rt_presence.specs.declared.tracks.Track.{Track}
 use Rattle.rt_presence.specs.declared.tracks.Place.{Place}
@@ -14,7 +15,6 @@ use Rattle.rt_presence.proofs.Entries.{IsRising, Updates, without_key}
 use Rattle.rt_presence.proofs.Orders.{track_exact, place_total, is_eq_true}
 use Rattle.rt_presence.proofs.Places.{not_true, all_kept, all_stay, Found, here, nobody, all_told, taken}
 use Rattle.rt_presence.proofs.Places.{all_put, found_without, found_with, owned, inserted_is, find_here}
-use Rattle.rt_presence.proofs.Plain.{AllOf, all_filter, all_every}
 use Rattle.rt_presence.proofs.Puts.{itself, inserted_put, removed_put}
 
 abbrev Stood : List Standing → Track → Type 0

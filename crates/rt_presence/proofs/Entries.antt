@@ -10,8 +10,8 @@ use Rattle.std.specs.Cmp.{IsTotalOrder}
 use Rattle.std.specs.List.Sorted.{IsStrictlySortedBy}
 use Rattle.std.specs.Map.{keys_of, remove_entry}
 use Rattle.std.specs.Ordering.{is_le, match_ordering, ordering_reverse}
+use Rattle.rt_value.proofs.Plain.{AllOf, filter_same}
 use Rattle.rt_presence.specs.Index.{value_at}
-use Rattle.rt_presence.proofs.Plain.{AllOf, filter_same}
 
 and_true : (b : Bool) → (b && true) ≡ b
 and_true true = refl

@@ -13,10 +13,10 @@ use Rattle.std.proofs.lemmas.List.{reverse-append, reverse-reverse}
 use Rattle.std.proofs.lemmas.Map.Text.{is_eq-slice_cmp}
 use Rattle.std.proofs.lemmas.Slice.Eq.{bytes_eq-Decides}
 use Rattle.rt_value.specs.Ordered.{inserted_by, inserted, in_order}
+use Rattle.rt_value.proofs.Plain.{AllOf, all_weaker, map_map, map_same}
+use Rattle.rt_value.proofs.Keys.{by_bytes, same, IsIn, Rises, Above, apart, tied, ordered_rises, ordered_has}
 use Rattle.rt_json.specs.declared.tree.Json.{Json}
 use Rattle.rt_presence.specs.Trees.{Held, Groups, under_key, metas_member, metas_of, added, all_added}
-use Rattle.rt_presence.proofs.Plain.{AllOf, all_weaker, map_map, map_same}
-use Rattle.rt_presence.proofs.Keys.{by_bytes, same, IsIn, Rises, Above, apart, tied, ordered_rises, ordered_has}
 
 -- one more at the end is added first
 pub added_last : (hs : List Held) (h : Held) (groups : Groups) → all_added (hs ++ h ∷ []) groups ≡ all_added hs (added h groups)

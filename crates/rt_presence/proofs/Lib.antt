@@ -4,10 +4,6 @@ pub mod Places
 pub mod Puts
 pub mod Changes
 pub mod Walks
-pub mod Among
-pub mod Plain
-pub mod Moves
-pub mod Keys
 pub mod Groups
 pub mod Neighbours
 pub mod Stands

@@ -7,10 +7,10 @@ use Rattle.std.specs.declared.cmp.Ordering.TheVariants.{Less, Equal, Greater}
 use Rattle.std.specs.Str.{bytes_eq}
 use Rattle.std.proofs.lemmas.Slice.Eq.{bytes_eq-Decides}
 use Rattle.rt_value.specs.Ordered.{inserted_by, inserted, in_order}
+use Rattle.rt_value.proofs.Plain.{AllOf, all_weaker, all_map_of}
+use Rattle.rt_value.proofs.Keys.{by_bytes, same, IsIn, Rises, Above, above_less, apart, tied, ordered_rises, ordered_has}
 use Rattle.rt_json.specs.declared.tree.Json.{Json}
 use Rattle.rt_presence.specs.Trees.{Held, Groups, under_key, groups_of, put_last}
-use Rattle.rt_presence.proofs.Plain.{AllOf, all_weaker, all_map_of}
-use Rattle.rt_presence.proofs.Keys.{by_bytes, same, IsIn, Rises, Above, above_less, apart, tied, ordered_rises, ordered_has}
 use Rattle.rt_presence.proofs.Groups.{under_other, under_own, nothing_under, all_unmap, keys}
 
 -- one more in front

@@ -7,13 +7,13 @@ use Rattle.std.specs.BTreeMap.{insert_entry, is_at}
 use Rattle.std.specs.List.Sorted.{IsStrictlySortedBy}
 use Rattle.std.specs.Map.{keys_of}
 use Rattle.std.specs.Ordering.{is_eq, is_lt, match_ordering}
+use Rattle.rt_value.proofs.Plain.{AllOf, all_weaker}
 use Rattle.rt_json.specs.declared.tree.Json.{Json}
 use Rattle.rt_presence.specs.declared.tracks.Track.{Track}
 use Rattle.rt_presence.specs.declared.tracks.Place.{Place}
 use Rattle.rt_presence.specs.Tracks.{Standing, track_cmp, place_cmp, is_of, put, track_of}
 use Rattle.rt_presence.specs.Index.{IsIndexed, place_of, value_at}
 use Rattle.rt_presence.proofs.Entries.{IsRising, Updates, without_key}
-use Rattle.rt_presence.proofs.Plain.{AllOf, all_weaker}
 use Rattle.rt_presence.proofs.Orders.{track_exact, place_exact, is_eq_true, of_place, at_place, of_is, told}
 
 pub not_true : (b : Bool) → not b ≡ true → b ≡ false

@@ -7,13 +7,13 @@ use Rattle.std.specs.List.Sorted.{IsStrictlySortedBy}
 use Rattle.std.specs.Map.{keys_of}
 use Rattle.std.specs.Ordering.{is_eq, is_lt, match_ordering}
 use Rattle.std.proofs.lemmas.Cmp.{tied_itself}
+use Rattle.rt_value.proofs.Plain.{AllOf, all_weaker}
 use Rattle.rt_json.specs.declared.tree.Json.{Json}
 use Rattle.rt_presence.specs.declared.tracks.Track.{Track}
 use Rattle.rt_presence.specs.Tracks.{Standing, track_cmp, put}
 use Rattle.rt_presence.specs.Index.{value_at}
 use Rattle.rt_presence.proofs.Entries.{IsRising, without_key}
 use Rattle.rt_presence.proofs.Orders.{track_exact, track_total}
-use Rattle.rt_presence.proofs.Plain.{AllOf, all_weaker}
 
 -- it is below them all
 abbrev Below : Track → List Standing → Type 0

@@ -8,38 +8,19 @@ use Rattle.std.proofs.lemmas.Bool.Decides.{eqb_tells}
 use Rattle.std.proofs.lemmas.Fmt.{decimal_injective}
 use Rattle.std.proofs.lemmas.Slice.Eq.{bytes_eq-Decides}
 use Rattle.rt_value.specs.Choice.{◌>>=◌}
-use Rattle.rt_json.specs.declared.tree.Json.{Json, Text, Row_of-Json, end_of-Json, more_of-Json, items-the_row-Json, items_hidden-the_row-Json-0, Row_of-Member, end_of-Member, more_of-Member, items-the_row-Member, items_hidden-the_row-Member-1}
-use Rattle.rt_json.specs.declared.tree.Json.TheBlock.{hidden-the_row-Json-0, hidden-the_row-Member-1}
+use Rattle.rt_value.proofs.Plain.{filter_alike, all_every}
+use Rattle.rt_value.proofs.Moves.{Moves, then_to, moves_same, moves_filter, moves_left, moves_right, moves_any}
+use Rattle.rt_value.proofs.Keys.{IsIn, ordered_rises, ordered_has, of_key, group, grouped}
+use Rattle.rt_json.specs.declared.tree.Json.{Json, Text}
 use Rattle.rt_json.specs.declared.tree.Json.TheVariants as j
 use Rattle.rt_json.specs.declared.tree.named.Member.{Member}
-use Rattle.rt_json.specs.Grammar.{member}
-use Rattle.rt_json.specs.Lookup.{or_else, last_named, members_of, member_of, row_members}
-use Rattle.rt_json.specs.Trees.{field, list_of, text_of, row_items}
+use Rattle.rt_json.specs.Lookup.{or_else, last_named, members_of}
+use Rattle.rt_json.specs.Trees.{field, list_of, text_of}
+use Rattle.rt_json.proofs.Lookups.{object_members, object_at, list_items}
 use Rattle.rt_presence.specs.declared.differences.Diff.{Diff}
 use Rattle.rt_presence.specs.Trees.{Held, is_kept, meta_object, under_key, metas_of, metas_tree, joins_of, leaves_of, difference_tree}
 use Rattle.rt_presence.specs.Client.{metas_under, metas_in, reference_of, part_of, is_among, after_difference}
-use Rattle.rt_presence.proofs.Plain.{filter_alike, all_every}
-use Rattle.rt_presence.proofs.Moves.{Moves, then_to, moves_same, moves_filter, moves_left, moves_right, moves_any}
-use Rattle.rt_presence.proofs.Keys.{IsIn, ordered_rises, ordered_has, of_key, group, grouped}
 use Rattle.rt_presence.proofs.Groups.{all_unmap, keys}
-
--- the members of an object, and the items of a list
-row_is : {n : _} → (row : Row_of-Member n) → row_members row ≡ items-the_row-Member n row
-row_is end_of-Member = refl
-row_is (more_of-Member name value rest) = ap (λ (xs : List Member). member name value ∷ xs) (row_is rest)
-
-pub object_members : (ms : List Member) → members_of (j.Object ms) ≡ ms
-object_members ms = row_is (hidden-the_row-Member-1 ms) ∙ items_hidden-the_row-Member-1 ms
-
-object_at : (ms : List Member) (name : List ℕ) → member_of (j.Object ms) name ≡ last_named name ms
-object_at ms name = ap (last_named name) (object_members ms)
-
-rows_are : {n : _} → (row : Row_of-Json n) → row_items row ≡ items-the_row-Json n row
-rows_are end_of-Json = refl
-rows_are (more_of-Json tree rest) = ap (λ (xs : List Json). tree ∷ xs) (rows_are rest)
-
-list_items : (xs : List Json) → list_of (j.List xs) ≡ Some xs
-list_items xs = ap (λ (ys : List Json). Some ys) (rows_are (hidden-the_row-Json-0 xs) ∙ items_hidden-the_row-Json-0 xs)
 
 flat_of_map : {A B C : Type 0} (f : B → List C) (g : A → B) (xs : List A) → flat_map f (map g xs) ≡ flat_map (λ x. f (g x)) xs
 flat_of_map f g [] = refl

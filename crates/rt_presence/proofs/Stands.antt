@@ -6,12 +6,12 @@ use Rattle.std.specs.Ordering.{is_lt}
 use Rattle.std.specs.Str.{bytes_eq}
 use Rattle.std.proofs.lemmas.Slice.Eq.{bytes_eq-Decides}
 use Rattle.std.proofs.lemmas.Bool.Decides.{Decides-eqb}
+use Rattle.rt_value.proofs.Among.{Among, from_contains, to_contains, among_filter, filter_among}
 use Rattle.rt_presence.specs.Tracks.{Standing, track_cmp, is_of, put, without_channel}
 use Rattle.rt_presence.specs.Index.{place_of}
 use Rattle.rt_presence.specs.Calls.{Call, tracks, ends, after_call, after_calls, is_by, Stands, CallsLeave}
 use Rattle.rt_presence.proofs.Orders.{of_place, at_place}
 use Rattle.rt_presence.proofs.Places.{not_true}
-use Rattle.rt_presence.proofs.Among.{Among, from_contains, to_contains, among_filter, filter_among}
 
 abbrev same : Standing → Standing → Bool
 same t u = is_of t.0.topic t.0.channel u

@@ -11,12 +11,12 @@ use Rattle.std.specs.Str.{bytes_eq}
 use Rattle.std.proofs.lemmas.Cmp.{nat_list_cmp_total, ranked, tied_itself}
 use Rattle.std.proofs.lemmas.Map.Lookups.{exact_bytes}
 use Rattle.std.proofs.lemmas.Slice.Eq.{bytes_eq-Decides}
+use Rattle.rt_value.proofs.Plain.{AllOf}
 use Rattle.rt_presence.proofs.Entries.{IsRising, entries_from}
 use Rattle.rt_presence.specs.declared.tracks.Track.{Track}
 use Rattle.rt_presence.specs.Tracks.{Standing, track_cmp}
 use Rattle.rt_presence.specs.Index.{least_on}
 use Rattle.rt_presence.specs.Trees.{Held, shown, on_topic}
-use Rattle.rt_presence.proofs.Plain.{AllOf}
 use Rattle.rt_presence.proofs.Neighbours.{KeysRise}
 
 abbrev by_topic : List ℕ → List ℕ → Ordering

@@ -2,7 +2,7 @@ use Rattle.std.proofs.Common.{◌≡◌, ◌++◌, List, ap, sym, subst, ◌∙�
 use Rattle.rt_json.specs.declared.tree.named.Member.{Member}
 use Rattle.rt_json.specs.Lookup.{members_of}
 use Rattle.rt_presence.specs.Trees.{is_kept}
-use Rattle.rt_presence.proofs.ReadAgain.{object_members}
+use Rattle.rt_json.proofs.Lookups.{object_members}
 use Rattle.rt_presence.proofs.trees.put_tree.Goals as goal
 
 pub returns-in-Object : goal.returns-in-Object

@@ -2,11 +2,11 @@ use Rattle.std.proofs.Common.{◌≡◌, ℕ, List, map, ap, subst, ◌∙◌, I
 use Rattle.std.specs.Ordering.{nat_cmp}
 use Rattle.std.specs.Cmp.Lexicographic.{slice_cmp}
 use Rattle.rt_value.specs.Ordered.{in_order}
+use Rattle.rt_value.proofs.Plain.{map_map}
 use Rattle.rt_json.specs.declared.tree.Json.{Json}
 use Rattle.rt_json.specs.declared.tree.Json.TheVariants as j
 use Rattle.rt_json.specs.declared.tree.named.Member.{Member}
 use Rattle.rt_presence.specs.Trees.{Held, groups_tree, metas_member, metas_tree, under_key, shown, on_topic}
-use Rattle.rt_presence.proofs.Plain.{map_map}
 use Rattle.rt_presence.proofs.present.Presence.state.Goals as goal
 
 pub returns : goal.returns

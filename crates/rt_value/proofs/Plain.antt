@@ -1,12 +1,11 @@
 -- What holds of each element of a list, by recursion.
 use Rattle.std.proofs.Common.{◌≡◌, ◌⊎◌, Bool, true, false, ◌||◌, ◌&&◌, not, cond, List, [], ◌∷◌, ◌++◌, map, reverse, length, Option, Some, None, refl, ap, subst, ◌∙◌, arith, inl, inr}
 use Rattle.std.specs.Prelude.{⊤, find}
-use Rattle.std.specs.List.{filter, flat_map, list_any}
-use Rattle.rt_laws.proofs.Among.{Among}
+use Rattle.std.specs.List.{AllByRecursion, filter, flat_map, list_any}
+use Rattle.rt_value.proofs.Among.{Among}
 
 abbrev pub AllOf : {A : Type 0} → (A → Type 0) → List A → Type 0
-AllOf B [] = ⊤
-AllOf B (x ∷ xs) = B x × AllOf B xs
+AllOf B xs = AllByRecursion B xs
 
 pub all_append : {A : Type 0} (B : A → Type 0) (xs ys : List A) → AllOf B xs → AllOf B ys → AllOf B (xs ++ ys)
 all_append B [] ys a b = b

@@ -1,4 +1,4 @@
--- The keys of a presence state: each once.
+-- Texts in byte order, each once, and elements grouped by such keys.
 use Rattle.std.proofs.Common.{◌≡◌, ℕ, Bool, true, false, ◌||◌, ◌&&◌, not, cond, List, [], ◌∷◌, ◌++◌, refl, sym, ap, ◌∙◌}
 use Rattle.std.specs.Prelude.{⊤}
 use Rattle.std.specs.List.{filter, flat_map, list_any}
@@ -10,32 +10,32 @@ use Rattle.std.specs.declared.cmp.Ordering.TheVariants.{Less, Equal, Greater}
 use Rattle.std.proofs.lemmas.Map.Text.{is_eq-slice_cmp}
 use Rattle.std.proofs.lemmas.Slice.Eq.{bytes_eq-Decides}
 use Rattle.rt_value.specs.Ordered.{inserted_by, inserted, in_order}
-use Rattle.rt_laws.proofs.Plain.{AllOf, all_weaker, filter_alike, filter_and, all_every}
-use Rattle.rt_laws.proofs.Moves.{Moves, then_to, moves_same, moves_back, moves_right, moves_parts}
+use Rattle.rt_value.proofs.Plain.{AllOf, all_weaker, filter_alike, filter_and, all_every}
+use Rattle.rt_value.proofs.Moves.{Moves, then_to, moves_same, moves_back, moves_right, moves_parts}
 
-abbrev by_bytes : List ℕ → List ℕ → Ordering
+abbrev pub by_bytes : List ℕ → List ℕ → Ordering
 by_bytes k l = slice_cmp nat_cmp k l
 
 abbrev pub same : List ℕ → List ℕ → Bool
 same k l = bytes_eq k l
 
-tied : (k l : List ℕ) → by_bytes k l ≡ Equal → k ≡ l
+pub tied : (k l : List ℕ) → by_bytes k l ≡ Equal → k ≡ l
 tied k l e = (bytes_eq-Decides k l).0 (sym (is_eq-slice_cmp k l) ∙ ap is_eq e)
 
-greater : (k l : List ℕ) → by_bytes k l ≡ Greater → by_bytes l k ≡ Less
+pub greater : (k l : List ℕ) → by_bytes k l ≡ Greater → by_bytes l k ≡ Less
 greater k l e = nat_list_cmp_total.antisymm l k ∙ ap ordering_reverse e
 
-apart : (k l : List ℕ) → by_bytes k l ≡ Less → same k l ≡ false
+pub apart : (k l : List ℕ) → by_bytes k l ≡ Less → same k l ≡ false
 apart k l e = sym (is_eq-slice_cmp k l) ∙ ap is_eq e
 
-abbrev Above : List ℕ → List (List ℕ) → Type 0
+abbrev pub Above : List ℕ → List (List ℕ) → Type 0
 Above k ls = AllOf (λ (l : List ℕ). by_bytes k l ≡ Less) ls
 
-abbrev Rises : List (List ℕ) → Type 0
+abbrev pub Rises : List (List ℕ) → Type 0
 Rises [] = ⊤
 Rises (k ∷ ks) = Above k ks × Rises ks
 
-above_less : (k l : List ℕ) (ls : List (List ℕ)) → by_bytes k l ≡ Less → Above l ls → Above k ls
+pub above_less : (k l : List ℕ) (ls : List (List ℕ)) → by_bytes k l ≡ Less → Above l ls → Above k ls
 above_less k l ls e a = all_weaker (λ (m : List ℕ). by_bytes l m ≡ Less) (λ (m : List ℕ). by_bytes k m ≡ Less) ls
     (λ m f. nat_list_cmp_total.trans k l m e f) a
 
