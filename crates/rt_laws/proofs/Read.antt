@@ -30,7 +30,8 @@ use Rattle.rt_entry.specs.declared.answer.Item.TheVariants as item
 use Rattle.rt_entry.specs.Story.{members_at}
 use Rattle.rt_entry.specs.Doings.{story}
 use Rattle.rt_entry.specs.Machine.{start, run}
-use Rattle.rt_entry.specs.Presence.{Held, after_message, client_view, shown_meta, present_on, told_since, last_items, message_in, messages_on, IsReader, said_since, GivenClientsAgree}
+use Rattle.rt_entry.specs.Messages.{shown_meta}
+use Rattle.rt_entry.specs.Presence.{after_message, client_view, present_on, told_since, last_items, message_in, messages_on, IsReader, said_since, GivenClientsAgree}
 use Rattle.rt_entry.specs.Headline.{MayArrive, MayFeed, MayTake}
 use Rattle.rt_entry.specs.Readable.{payload_levels, IsReadable}
 use Rattle.rt_laws.specs.Told.{CanBeTaken, AnswersAreReadable}
@@ -43,6 +44,7 @@ use Rattle.rt_laws.proofs.Recorded.{all_bound}
 use Rattle.rt_laws.proofs.Stocked.{run_stocked, start_stocked}
 use Rattle.rt_value.proofs.Moves.{Moves, permuted}
 use Rattle.rt_json.proofs.Lookups.{object_at, list_items}
+use Rattle.rt_presence.specs.Trees.{Held}
 use Rattle.rt_laws.proofs.Turns.{view_append}
 use Rattle.rt_laws.proofs.Agree.{agrees}
 use Rattle.rt_laws.proofs.Since.{as_items, due_since, since_on}
