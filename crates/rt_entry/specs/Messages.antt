@@ -1,19 +1,14 @@
 -- The messages of a channel (the Realtime protocol, "Channels" and "Presence").
-use Rattle.std.specs.Prelude.{ℕ, not, List, [], ◌∷◌, ◌++◌, map, drop, length, codes, Option, Some, None}
-use Rattle.std.specs.Fmt.{decimal}
-use Rattle.std.specs.List.{filter, enumerate_from}
-use Rattle.std.specs.Str.{bytes_eq}
-use Rattle.std.specs.Ordering.{nat_cmp}
-use Rattle.std.specs.Cmp.Lexicographic.{slice_cmp}
-use Rattle.rt_value.specs.Ordered.{in_order}
+use Rattle.std.specs.Prelude.{ℕ, List, [], ◌∷◌, ◌++◌, map, drop, length, codes, Option, Some, None}
+use Rattle.std.specs.List.{enumerate_from}
 use Rattle.rt_json.specs.declared.tree.Json.{Json, Text}
 use Rattle.rt_json.specs.declared.tree.Json.TheVariants as j
 use Rattle.rt_json.specs.declared.tree.named.Member.{Member}
-use Rattle.rt_json.specs.Lookup.{members_of}
 use Rattle.rt_json.specs.Trees.{field}
 use Rattle.rt_phx.specs.declared.message.Message.{Message}
 use Rattle.rt_phx.specs.Says.{said_on, close_of, subscribed_payload, failed_payload, number_tree, change_payload}
 use Rattle.rt_phx.specs.Asks.{topic_prefix}
+use Rattle.rt_presence.specs.Trees.{Held, meta_object, metas_tree, joins_and_leaves}
 use Rattle.rt_registry.specs.declared.binding.Subscribed.{Subscribed}
 use Rattle.rt_entry.specs.declared.story.Channel.{Channel}
 use Rattle.rt_entry.specs.declared.story.Track.{Track}
@@ -49,24 +44,18 @@ binding_tree b =
 abbrev pub joined_response : Channel → Json
 joined_response c = j.Object (field (codes "postgres_changes") (j.List (map binding_tree (enumerate_from c.first_id c.bindings))) ∷ [])
 
--- a meta: the track's number as `phx_ref`, then the tracked object's members but one of that name
 abbrev pub meta_tree : Track → Json
-meta_tree t =
-    j.Object (field (codes "phx_ref") (Text (decimal t.reference)) ∷ filter (λ m. not (bytes_eq m.name (codes "phx_ref"))) (members_of t.tree))
+meta_tree t = meta_object t.reference t.tree
 
-abbrev pub metas_of : List Track → List ℕ → Member
-metas_of tracks key = field key (j.Object (field (codes "metas") (j.List (map meta_tree (filter (λ t. bytes_eq t.key key) tracks))) ∷ []))
+abbrev pub shown_meta : Track → Held
+shown_meta t = (t.key, meta_tree t)
 
--- the metas under each key, the keys in byte order, the metas of a key in the order of their tracks
-abbrev pub metas_tree : List Track → Json
-metas_tree tracks = j.Object (map (metas_of tracks) (in_order (slice_cmp nat_cmp) (map (λ t. t.key) tracks)))
-
+-- the metas of a key in the order of their tracks
 abbrev pub presence_state : Channel → List Track → Message
-presence_state c tracks = channel_message c (codes "presence_state") (metas_tree tracks)
+presence_state c tracks = channel_message c (codes "presence_state") (metas_tree (map shown_meta tracks))
 
 abbrev pub presence_diff : Channel → List Track → List Track → Message
-presence_diff c joins leaves =
-    channel_message c (codes "presence_diff") (j.Object (field (codes "joins") (metas_tree joins) ∷ field (codes "leaves") (metas_tree leaves) ∷ []))
+presence_diff c joins leaves = channel_message c (codes "presence_diff") (joins_and_leaves (map shown_meta joins) (map shown_meta leaves))
 
 abbrev pub broadcast_message : Channel → Json → Message
 broadcast_message c payload = channel_message c (codes "broadcast") payload

@@ -1,17 +1,15 @@
--- The presence that a client holds (the Realtime protocol, "Presence"): the metas of a state, then of each difference its joins added and its
--- leaves removed by `phx_ref`.
-use Rattle.std.specs.Prelude.{◌≡◌, ℕ, suc, ◌==◌, ◌<◌, ◌^◌, nat_le, Bool, true, false, not, ◌&&◌, List, [], ◌∷◌, ◌++◌, map, length, codes, Option, Some, None, count_by, unwrap_or, IsPermutation, Contains}
-use Rattle.std.specs.List.{AllByRecursion, filter, filter_map, flat_map, list_any}
+-- The presence that a client holds, message by message (the Realtime protocol, "Presence").
+use Rattle.std.specs.Prelude.{◌≡◌, ℕ, suc, ◌==◌, ◌<◌, ◌^◌, nat_le, true, false, not, ◌&&◌, List, [], ◌∷◌, ◌++◌, map, length, codes, Option, Some, None, count_by, IsPermutation, Contains}
+use Rattle.std.specs.List.{AllByRecursion, filter, filter_map}
 use Rattle.std.specs.Str.{bytes_eq}
 use Rattle.rt_value.specs.Choice.{◌>>=◌, first_case}
 use Rattle.rt_json.specs.declared.tree.Json.{Json}
-use Rattle.rt_json.specs.declared.tree.named.Member.{Member}
 use Rattle.rt_json.specs.Grammar.{IsWithin}
-use Rattle.rt_json.specs.Lookup.{member_of, members_of}
-use Rattle.rt_json.specs.Trees.{text_of, list_of}
 use Rattle.rt_phx.specs.declared.message.Message.{Message}
 use Rattle.rt_phx.specs.declared.message.Version.{Version}
-use Rattle.rt_phx.specs.Frame.{no_members, message_of_tree, spelled}
+use Rattle.rt_phx.specs.Frame.{message_of_tree, spelled}
+use Rattle.rt_presence.specs.Trees.{Held}
+use Rattle.rt_presence.specs.Reading.{metas_in, after_difference}
 use Rattle.rt_catalog.specs.declared.catalog.Catalog.{Catalog}
 use Rattle.rt_catalog.specs.Names.{HasReadableNames}
 use Rattle.rt_entry.specs.declared.input.Input.{Input}
@@ -25,33 +23,11 @@ use Rattle.rt_entry.specs.declared.story.Track.{Track}
 use Rattle.rt_entry.specs.declared.answer.Answer.{Answer}
 use Rattle.rt_entry.specs.declared.answer.Answer.TheVariants.{Opened, Says, Ended}
 use Rattle.rt_entry.specs.Story.{opening_at, members_at, present_at}
-use Rattle.rt_entry.specs.Messages.{meta_tree}
+use Rattle.rt_entry.specs.Messages.{shown_meta}
 use Rattle.rt_entry.specs.Doings.{story}
 use Rattle.rt_entry.specs.Answers.{told, answers, due}
 use Rattle.rt_entry.specs.Machine.{World, is_message, start, run}
 use Rattle.rt_entry.specs.Readable.{payload_levels, IsOfLines}
-
--- a key and a meta under it
-abbrev pub Held : Type 0
-Held = List ℕ × Json
-
-abbrev pub metas_under : Member → List Held
-metas_under m = map (λ meta. (m.name, meta)) (unwrap_or (member_of m.value (codes "metas") >>= list_of) [])
-
-abbrev pub metas_in : Json → List Held
-metas_in tree = flat_map metas_under (members_of tree)
-
-abbrev pub reference_of : Held → List ℕ
-reference_of h = unwrap_or (member_of h.1 (codes "phx_ref") >>= text_of) []
-
-abbrev pub part_of : List ℕ → Json → List Held
-part_of name payload = metas_in (unwrap_or (member_of payload name) no_members)
-
-abbrev pub is_among : List Held → Held → Bool
-is_among held h = list_any (λ g. bytes_eq (reference_of g) (reference_of h)) held
-
-abbrev pub after_difference : List Held → Json → List Held
-after_difference held payload = filter (λ h. not (is_among (part_of (codes "leaves") payload) h)) (held ++ part_of (codes "joins") payload)
 
 abbrev pub after_message : List Held → Message → List Held
 after_message held m =
@@ -70,9 +46,6 @@ abbrev pub said_to : Channel → ℕ × Answer → Option Message
 said_to ch (slot, Says m) = elim ((slot == ch.slot) && bytes_eq m.topic ch.topic) [ true ↦ Some m | false ↦ None ]
 said_to ch (slot, Opened version) = None
 said_to ch (slot, Ended name) = None
-
-abbrev pub shown_meta : Track → Held
-shown_meta t = (t.key, meta_tree t)
 
 module _ (c : Catalog) (s : Settings) where
   -- what a channel was told from its join on

@@ -8,6 +8,7 @@ use Rattle.rt_value.proofs.Among.{Among, from_contains, among_either, among_filt
 use Rattle.rt_value.proofs.Plain.{AllOf, all_among}
 use Rattle.rt_value.proofs.Moves.{Moves, permuted}
 use Rattle.rt_phx.specs.declared.message.Message.{Message}
+use Rattle.rt_presence.specs.Trees.{Held}
 use Rattle.rt_catalog.specs.declared.catalog.Catalog.{Catalog}
 use Rattle.rt_entry.specs.declared.input.Input.{Input}
 use Rattle.rt_entry.specs.declared.input.Input.TheVariants.{Opened, Frame, Gone, Poll, Tick, Stop}
@@ -18,7 +19,8 @@ use Rattle.rt_entry.specs.declared.story.Track.{Track}
 use Rattle.rt_entry.specs.Story.{Now, now_of, has, departed_in, members_at, member_in, present_at, tables_left}
 use Rattle.rt_entry.specs.Doings.{doings, story}
 use Rattle.rt_entry.specs.Answers.{answers_by}
-use Rattle.rt_entry.specs.Presence.{Held, client_view, shown_meta, told_since, ClientsAgree}
+use Rattle.rt_entry.specs.Messages.{shown_meta}
+use Rattle.rt_entry.specs.Presence.{client_view, told_since, ClientsAgree}
 use Rattle.rt_laws.specs.After.{joins_of, tracks_after, done_by}
 use Rattle.rt_laws.specs.Departures.{heard}
 use Rattle.rt_laws.specs.Follows.{IsNoStop}

@@ -7,6 +7,9 @@ use Rattle.rt_value.specs.declared.row.Row.{Row}
 use Rattle.rt_value.proofs.Among.{Among, from_contains}
 use Rattle.rt_value.proofs.Plain.{AllOf, all_weaker}
 use Rattle.rt_value.proofs.Moves.{Moves, permuted}
+use Rattle.rt_presence.specs.Trees.{Held, metas_tree}
+use Rattle.rt_presence.specs.Reading.{metas_in}
+use Rattle.rt_presence.proofs.ReadAgain.{read_again}
 use Rattle.rt_catalog.specs.declared.catalog.Catalog.{Catalog}
 use Rattle.rt_entry.specs.declared.input.Input.{Input}
 use Rattle.rt_entry.specs.declared.input.Input.TheVariants.{Opened, Frame, Gone, Poll, Tick, Stop}
@@ -15,15 +18,14 @@ use Rattle.rt_entry.specs.declared.story.Member.{Member}
 use Rattle.rt_entry.specs.declared.story.Track.{Track}
 use Rattle.rt_entry.specs.declared.story.Part.{Part}
 use Rattle.rt_entry.specs.Story.{Now, now_of, has, departed_in, present_at, tables_left}
-use Rattle.rt_entry.specs.Messages.{metas_tree, presence_state}
+use Rattle.rt_entry.specs.Messages.{presence_state, shown_meta}
 use Rattle.rt_entry.specs.Doings.{opening_in, doings, story}
 use Rattle.rt_entry.specs.Answers.{answers_by}
-use Rattle.rt_entry.specs.Presence.{Held, metas_in, client_view, shown_meta, present_on}
+use Rattle.rt_entry.specs.Presence.{client_view, present_on}
 use Rattle.rt_laws.specs.After.{tracks_after, after, done_by}
 use Rattle.rt_laws.specs.Departures.{heard}
 use Rattle.rt_laws.specs.Follows.{IsOutside}
 use Rattle.rt_laws.specs.Members.{members_of_journal}
-use Rattle.rt_laws.proofs.Metas.{read_again}
 use Rattle.rt_laws.proofs.Shapes.{AreApart}
 use Rattle.rt_laws.proofs.Sound.{members_in, members_apart}
 use Rattle.rt_laws.proofs.Unique.{RisingMembers, members_rising}
@@ -105,8 +107,8 @@ module _ (c : Catalog) (s : Settings) where
       let here = from_contains (members_in st) h known in
       let ts = present_on c s journal h.channel.topic in
       let on : Track → Bool = λ t. bytes_eq t.topic h.channel.topic in
-      let moved = held_after journal i h short k here enabled (metas_in (metas_tree ts)) stays (read_again ts) in
-      let P : List Track → Type 0 = λ us. Moves (client_view (metas_in (metas_tree ts)) (heard c s journal i h.channel))
-      (map shown_meta (filter on us)) in
-      permuted (client_view (metas_in (metas_tree ts)) (heard c s journal i h.channel))
-      (map shown_meta (present_on c s (i ∷ journal) h.channel.topic)) (subst P (sym (tracks_next journal i)) moved)
+      let state = metas_in (metas_tree (map shown_meta ts)) in
+      let moved = held_after journal i h short k here enabled state stays (read_again (map shown_meta ts)) in
+      let P : List Track → Type 0 = λ us. Moves (client_view state (heard c s journal i h.channel)) (map shown_meta (filter on us)) in
+      permuted (client_view state (heard c s journal i h.channel)) (map shown_meta (present_on c s (i ∷ journal) h.channel.topic))
+      (subst P (sym (tracks_next journal i)) moved)

@@ -10,6 +10,7 @@ use Rattle.rt_value.proofs.Moves.{Moves}
 use Rattle.rt_phx.specs.declared.end.EndName.{EndName}
 use Rattle.rt_phx.specs.declared.end.EndName.TheVariants as end_name
 use Rattle.rt_filter.specs.declared.subscription.Subscription.{Subscription}
+use Rattle.rt_presence.specs.Trees.{Held}
 use Rattle.rt_catalog.specs.declared.catalog.Catalog.{Catalog}
 use Rattle.rt_change.specs.declared.change.Change.{Change}
 use Rattle.rt_change.specs.Verdicts.{is_truncate}
@@ -24,7 +25,8 @@ use Rattle.rt_entry.specs.declared.story.Part.TheVariants.{Opens, Ends}
 use Rattle.rt_entry.specs.declared.entry.ChannelView.{ChannelView}
 use Rattle.rt_entry.specs.Story.{Now, has, departed_in, is_last, standing_tracks}
 use Rattle.rt_entry.specs.Doings.{in_turn, channels_of, opening_in, end_of, end_if_open, fail, open_parts, is_idle, has_run_out, tick_parts, subscriptions, view_of, opening_of, gets, change_parts, change_parts_to, change_parts_to_all, poll_parts, doings}
-use Rattle.rt_entry.specs.Presence.{Held, client_view, shown_meta}
+use Rattle.rt_entry.specs.Messages.{shown_meta}
+use Rattle.rt_entry.specs.Presence.{client_view}
 use Rattle.rt_laws.specs.After.{tracks_after}
 use Rattle.rt_laws.specs.Follows.{IsOutside}
 use Rattle.rt_laws.proofs.Shapes.{AreApart}

@@ -15,6 +15,7 @@ use Rattle.rt_phx.specs.Frame.{message_of, no_members}
 use Rattle.rt_phx.specs.Says.{reply_ok, reply_error}
 use Rattle.rt_phx.specs.Asks.{Ask, leave, renew, track, untrack, unknown_presence, nothing, ask_of, is_heartbeat, is_join, is_channel_topic}
 use Rattle.rt_phx.specs.Asks as ask
+use Rattle.rt_presence.specs.Trees.{Held}
 use Rattle.rt_catalog.specs.declared.catalog.Catalog.{Catalog}
 use Rattle.rt_entry.specs.declared.input.Settings.{Settings}
 use Rattle.rt_entry.specs.declared.story.Opening.{Opening}
@@ -24,10 +25,10 @@ use Rattle.rt_entry.specs.declared.story.Track.{Track}
 use Rattle.rt_entry.specs.declared.story.Part.{Part}
 use Rattle.rt_entry.specs.declared.story.Part.TheVariants.{Tells, Joins, Renews, Tracks, Untracks}
 use Rattle.rt_entry.specs.Story.{Now, Standing, has, departed_by, departed_in, is_last}
-use Rattle.rt_entry.specs.Messages.{presence_state, presence_diff, subscribed_message, joined_response}
+use Rattle.rt_entry.specs.Messages.{presence_state, presence_diff, subscribed_message, joined_response, shown_meta}
 use Rattle.rt_entry.specs.Joining.{Checked, channel_of_join, renewal_of}
 use Rattle.rt_entry.specs.Doings.{tell, in_turn, watches, is_of_slot, channels_of, end_of, is_on, channel_on, track_of, diffs, leave_diffs, close, fail, tell_if, has_bindings, present_on, accept_parts, join_result_parts, others, renewal_parts, gets_broadcast, broadcast_part, broadcast_parts, track_by, track_parts, untrack_part, is_shut, join_over_former, join_parts, ask_parts, channel_parts, message_parts, frame_parts}
-use Rattle.rt_entry.specs.Presence.{Held, after_message, client_view, shown_meta}
+use Rattle.rt_entry.specs.Presence.{after_message, client_view}
 use Rattle.rt_laws.specs.After.{tracks_in, tracks_after}
 use Rattle.rt_laws.specs.Departures.{leave_for}
 use Rattle.rt_laws.specs.Views.{leaves_in, Fit}

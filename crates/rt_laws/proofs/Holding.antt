@@ -9,7 +9,8 @@ use Rattle.rt_entry.specs.declared.input.Step.{Step}
 use Rattle.rt_entry.specs.Story.{members_at}
 use Rattle.rt_entry.specs.Doings.{story}
 use Rattle.rt_entry.specs.Machine.{start, run}
-use Rattle.rt_entry.specs.Presence.{client_view, shown_meta, present_on, TakenClientsAgree, GivenClientsAgree}
+use Rattle.rt_entry.specs.Messages.{shown_meta}
+use Rattle.rt_entry.specs.Presence.{client_view, present_on, TakenClientsAgree, GivenClientsAgree}
 use Rattle.rt_value.proofs.Among.{from_contains}
 use Rattle.rt_value.proofs.Moves.{permuted}
 use Rattle.rt_laws.proofs.Agree.{agrees, clients_agree}

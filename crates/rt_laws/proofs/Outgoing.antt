@@ -1,5 +1,5 @@
 -- Each message that the server builds is readable.
-use Rattle.std.proofs.Common.{◌≡◌, ℕ, suc, ◌+◌, ◌<◌, ◌≤◌, Bool, true, false, not, cond, List, [], ◌∷◌, ◌++◌, map, length, Option, Some, None, refl, arith}
+use Rattle.std.proofs.Common.{◌≡◌, ℕ, suc, ◌+◌, ◌<◌, ◌≤◌, Bool, true, false, cond, List, [], ◌∷◌, ◌++◌, map, length, Option, Some, None, refl, arith}
 use Rattle.std.specs.Prelude.{◌^◌, IsUtf8, codes}
 use Rattle.std.specs.Fmt.{decimal}
 use Rattle.std.specs.List.{filter, enumerate_from, list_all, AllByRecursion}
@@ -12,7 +12,6 @@ use Rattle.rt_value.specs.Ordered.{inserted_by, inserted, in_order}
 use Rattle.rt_value.proofs.Plain.{AllOf, Maybe, all_append, all_map_of, all_filter}
 use Rattle.rt_json.specs.declared.tree.Json.{Json, Text}
 use Rattle.rt_json.specs.declared.tree.Json.TheVariants as j
-use Rattle.rt_json.specs.declared.tree.named.Member.{Member}
 use Rattle.rt_json.specs.Fits.{FitsWithin}
 use Rattle.rt_json.specs.Lookup.{members_of}
 use Rattle.rt_json.specs.Trees.{field}
@@ -20,12 +19,13 @@ use Rattle.rt_phx.specs.declared.message.Message.{Message}
 use Rattle.rt_phx.specs.Fits.{IsRef}
 use Rattle.rt_phx.specs.Frame.{no_members}
 use Rattle.rt_phx.specs.Says.{reply_payload, reply_ok, reason_of, reply_error, system_payload, number_tree}
+use Rattle.rt_presence.specs.Trees.{Held, is_kept, under_key, metas_of, metas_tree}
 use Rattle.rt_registry.specs.declared.binding.Binding.{Binding}
 use Rattle.rt_registry.specs.declared.binding.Subscribed.{Subscribed}
 use Rattle.rt_entry.specs.declared.story.Channel.{Channel}
 use Rattle.rt_entry.specs.declared.story.Track.{Track}
 use Rattle.rt_entry.specs.declared.entry.ChannelView.{ChannelView}
-use Rattle.rt_entry.specs.Messages.{channel_message, close_message, channel_name, subscribed_message, failed_message, text_field, binding_tree, joined_response, meta_tree, metas_of, metas_tree, presence_state, presence_diff, broadcast_message, change_message}
+use Rattle.rt_entry.specs.Messages.{channel_message, close_message, channel_name, subscribed_message, failed_message, text_field, binding_tree, joined_response, shown_meta, presence_state, presence_diff, broadcast_message, change_message}
 use Rattle.rt_entry.specs.Readable.{IsReadable}
 use Rattle.rt_laws.proofs.Fitting.{MemberFits, text_fits, number_fits, list_fits, object_fits, fits_up, members_fits}
 use Rattle.rt_laws.proofs.Texts.{is_ascii_byte, word, decimal_utf8, decimal_number}
@@ -215,41 +215,52 @@ module _ (ch : Channel) (f : ChannelFits ch) where
 
   -- presence
 
-  meta_fits : (t : Track) → TrackFits t → FitsWithin 62 (meta_tree t)
-  meta_fits t h =
-      object_fits 61 (field (codes "phx_ref") (Text (decimal t.reference)) ∷ filter (λ (m : Member). not (bytes_eq m.name (codes "phx_ref")))
-      (members_of t.tree)) (
-        text_member 61 (codes "phx_ref") (decimal t.reference) refl (decimal_utf8 t.reference h.reference),
-        recursed_filter (MemberFits 61) (λ (m : Member). not (bytes_eq m.name (codes "phx_ref"))) (members_of t.tree) (members_fits 61 t.tree h.tree),
-      )
+  abbrev HeldFits : Held → Type 0
+  HeldFits h = IsUtf8 h.0 × FitsWithin 62 h.1
 
-  key_metas : (tracks : List Track) (key : List ℕ) → AllOf TrackFits tracks → IsUtf8 key → MemberFits 64 (metas_of tracks key)
-  key_metas tracks key a u =
-      let own = filter (λ (t : Track). bytes_eq t.key key) tracks in
-      let metas = recursed (FitsWithin 62) (map meta_tree own)
-      (all_map_of (FitsWithin 62) TrackFits meta_tree own meta_fits (all_filter TrackFits (λ (t : Track). bytes_eq t.key key) tracks a)) in (
+  shown_fits : (t : Track) → TrackFits t → HeldFits (shown_meta t)
+  shown_fits t h = (
+    h.key,
+    object_fits 61 (field (codes "phx_ref") (Text (decimal t.reference)) ∷ filter is_kept (members_of t.tree)) (
+      text_member 61 (codes "phx_ref") (decimal t.reference) refl (decimal_utf8 t.reference h.reference),
+      recursed_filter (MemberFits 61) is_kept (members_of t.tree) (members_fits 61 t.tree h.tree),
+    ),
+  )
+
+  all_shown : (tracks : List Track) → AllOf TrackFits tracks → AllOf HeldFits (map shown_meta tracks)
+  all_shown tracks a = all_map_of HeldFits TrackFits shown_meta tracks shown_fits a
+
+  key_metas : (held : List Held) (key : List ℕ) → AllOf HeldFits held → IsUtf8 key → MemberFits 64 (metas_of held key)
+  key_metas held key a u =
+      let own = filter (λ (h : Held). bytes_eq h.0 key) held in
+      let metas = recursed (FitsWithin 62) (under_key held key)
+      (all_map_of (FitsWithin 62) HeldFits (λ (h : Held). h.1) own (λ h f. f.1) (all_filter HeldFits (λ (h : Held). bytes_eq h.0 key) held a)) in (
         u,
-        object_fits 63 (field (codes "metas") (j.List (map meta_tree own)) ∷ [])
-            ((word (codes "metas") refl, list_fits 62 (map meta_tree own) metas), tt),
+        object_fits 63 (field (codes "metas") (j.List (under_key held key)) ∷ [])
+            ((word (codes "metas") refl, list_fits 62 (under_key held key) metas), tt),
       )
 
-  metas_fit : (tracks : List Track) → AllOf TrackFits tracks → FitsWithin 65 (metas_tree tracks)
-  metas_fit tracks a =
-      let keys = map (λ (t : Track). t.key) tracks in
+  metas_fit : (held : List Held) → AllOf HeldFits held → FitsWithin 65 (metas_tree held)
+  metas_fit held a =
+      let keys = map (λ (h : Held). h.0) held in
       let order = slice_cmp nat_cmp in
-      let ordered = ordered_all order IsUtf8 keys (all_map_of IsUtf8 TrackFits (λ (t : Track). t.key) tracks (λ t h. h.key) a) in
-      object_fits 64 (map (metas_of tracks) (in_order order keys))
-      (recursed (MemberFits 64) (map (metas_of tracks) (in_order order keys))
-      (all_map_of (MemberFits 64) IsUtf8 (metas_of tracks) (in_order order keys) (λ key u. key_metas tracks key a u) ordered))
+      let ordered = ordered_all order IsUtf8 keys (all_map_of IsUtf8 HeldFits (λ (h : Held). h.0) held (λ h f. f.0) a) in
+      object_fits 64 (map (metas_of held) (in_order order keys))
+      (recursed (MemberFits 64) (map (metas_of held) (in_order order keys))
+      (all_map_of (MemberFits 64) IsUtf8 (metas_of held) (in_order order keys) (λ key u. key_metas held key a u) ordered))
 
   pub state_readable : (tracks : List Track) → AllOf TrackFits tracks → IsReadable 66 (presence_state ch tracks)
-  state_readable tracks a = on_channel (codes "presence_state") (metas_tree tracks) refl (fits_up 1 65 (metas_tree tracks) (metas_fit tracks a))
+  state_readable tracks a =
+      let tree = metas_tree (map shown_meta tracks) in
+      on_channel (codes "presence_state") tree refl (fits_up 1 65 tree (metas_fit (map shown_meta tracks) (all_shown tracks a)))
 
   pub diff_readable : (joins leaves : List Track) → AllOf TrackFits joins → AllOf TrackFits leaves → IsReadable 66 (presence_diff ch joins leaves)
   diff_readable joins leaves a b =
+      let joined = map shown_meta joins in
+      let left = map shown_meta leaves in
       on_channel (codes "presence_diff") _ refl
-      (object_fits 65 (field (codes "joins") (metas_tree joins) ∷ field (codes "leaves") (metas_tree leaves) ∷ [])
-      ((word (codes "joins") refl, metas_fit joins a), ((word (codes "leaves") refl, metas_fit leaves b), tt)))
+      (object_fits 65 (field (codes "joins") (metas_tree joined) ∷ field (codes "leaves") (metas_tree left) ∷ [])
+      ((word (codes "joins") refl, metas_fit joined (all_shown joins a)), ((word (codes "leaves") refl, metas_fit left (all_shown leaves b)), tt)))
 
 -- the changes of a channel
 

@@ -27,7 +27,8 @@ use Rattle.rt_entry.specs.declared.story.Channel.{Channel}
 use Rattle.rt_entry.specs.declared.answer.Item.{Item}
 use Rattle.rt_entry.specs.declared.answer.Item.TheVariants as item
 use Rattle.rt_entry.specs.Machine.{start, run}
-use Rattle.rt_entry.specs.Presence.{Held, after_message, client_view, shown_meta, present_on, last_items, as_items, messages_to, message_in, messages_on, IsReader, said_since, ReadersAgree}
+use Rattle.rt_entry.specs.Messages.{shown_meta}
+use Rattle.rt_entry.specs.Presence.{after_message, client_view, present_on, last_items, as_items, messages_to, message_in, messages_on, IsReader, said_since, ReadersAgree}
 use Rattle.rt_entry.specs.Readable.{payload_levels, IsReadable, IsOfLines}
 use Rattle.rt_laws.specs.Told.{AnswersAreReadable}
 use Rattle.rt_value.proofs.Plain.{AllOf, filter_map_swap}
@@ -37,6 +38,7 @@ use Rattle.rt_laws.proofs.Telling.{said_fits, answer_fits}
 use Rattle.rt_laws.proofs.Recorded.{all_of_lines}
 use Rattle.rt_laws.proofs.Holding.{short_before, given_agree}
 use Rattle.rt_json.proofs.Lookups.{object_at, list_items}
+use Rattle.rt_presence.specs.Trees.{Held}
 use Rattle.rt_laws.proofs.Turns.{view_append}
 
 -- what is read of a message: version 1 doesn't write the join_ref

@@ -17,6 +17,9 @@ use Rattle.rt_phx.specs.Says.{reply_ok, reply_error}
 use Rattle.rt_phx.specs.Asks.{Ask, leave, renew, track, untrack, unknown_presence, nothing, ask_of, is_heartbeat, is_join, is_channel_topic}
 use Rattle.rt_phx.specs.Asks as ask
 use Rattle.rt_filter.specs.declared.subscription.Subscription.{Subscription}
+use Rattle.rt_presence.specs.Trees.{Held, metas_tree}
+use Rattle.rt_presence.specs.Reading.{metas_in}
+use Rattle.rt_presence.proofs.ReadAgain.{read_again}
 use Rattle.rt_catalog.specs.declared.catalog.Catalog.{Catalog}
 use Rattle.rt_change.specs.declared.change.Change.{Change}
 use Rattle.rt_change.specs.Verdicts.{is_truncate}
@@ -31,12 +34,11 @@ use Rattle.rt_entry.specs.declared.story.Part.{Part}
 use Rattle.rt_entry.specs.declared.story.Part.TheVariants.{Joins}
 use Rattle.rt_entry.specs.declared.entry.ChannelView.{ChannelView}
 use Rattle.rt_entry.specs.Story.{Now, Standing, has, departed_by, departed_in, tracked_by, joined_by, is_last, standing_tracks}
-use Rattle.rt_entry.specs.Messages.{metas_tree, presence_state, subscribed_message, joined_response}
+use Rattle.rt_entry.specs.Messages.{presence_state, subscribed_message, joined_response, shown_meta}
 use Rattle.rt_entry.specs.Joining.{Checked, channel_of_join, renewal_of}
 use Rattle.rt_entry.specs.Doings.{tell, in_turn, opening_in, channel_on, track_of, leave_diffs, end_of, end_if_open, close, tell_if, open_parts, has_bindings, present_on, accept_parts, join_result_parts, others, renewal_parts, gets_broadcast, broadcast_part, broadcast_parts, track_by, untrack_part, is_shut, tick_parts, stop_parts, subscriptions, view_of, opening_of, join_over_former, join_parts, ask_parts, channel_parts, message_parts, frame_parts, gets, change_parts, change_parts_to, change_parts_to_all, poll_parts, doings}
-use Rattle.rt_entry.specs.Presence.{Held, metas_in, client_view, shown_meta}
+use Rattle.rt_entry.specs.Presence.{client_view}
 use Rattle.rt_laws.specs.After.{joins_of, tracks_in, tracks_after}
-use Rattle.rt_laws.proofs.Metas.{read_again}
 use Rattle.rt_laws.proofs.Shapes.{AreApart, Below, IsMade, Plain, join_made, eqb_same, plain_end, plain_end_if, plain_open, plain_ticks, plain_stop}
 use Rattle.rt_laws.proofs.Sound.{plain_joins}
 use Rattle.rt_laws.proofs.Hears.{hears, hears_append, none_leave}
@@ -134,7 +136,7 @@ module _ (now : Now) where
         ∙ flat_map-append tracked_by quiet state ∙ ap (λ (xs : List (ℕ × Option Track)). xs ++ tracks_in state) (mute_tracks quiet mute_quiet)
         ∙ tell_tracks ch.presence ch.slot said
 
-    start_view : (held : List Held) → client_view held (hears ch all) ≡ metas_in (metas_tree (present_on now gone ch.topic))
+    start_view : (held : List Held) → client_view held (hears ch all) ≡ metas_in (metas_tree (map shown_meta (present_on now gone ch.topic)))
     start_view held =
         let first = client_view held (hears ch (closing o)) in
         let next = client_view first (hears ch quiet) in
@@ -154,8 +156,8 @@ module _ (now : Now) where
     start : (held : List Held) → Moves (client_view held (hears ch all)) (map shown_meta (filter (on ch) (tracks_after now.tracks all)))
     start held =
         let P : List Held → Type 0 = λ x. Moves x (map shown_meta (filter (on ch) (tracks_after now.tracks all))) in
-        let Q : List Track → Type 0 = λ ts. Moves (metas_in (metas_tree (present_on now gone ch.topic))) (map shown_meta ts) in
-        subst P (sym (start_view held)) (subst Q (sym tracks_are) (read_again (present_on now gone ch.topic)))
+        let Q : List Track → Type 0 = λ ts. Moves (metas_in (metas_tree (map shown_meta (present_on now gone ch.topic)))) (map shown_meta ts) in
+        subst P (sym (start_view held)) (subst Q (sym tracks_are) (read_again (map shown_meta (present_on now gone ch.topic))))
 
   -- what the parts of an input keep
   pub record Keeping (ps : List Part) : Type 0 where

@@ -12,15 +12,17 @@ use Rattle.rt_value.proofs.Plain.{AllOf, all_append, all_filter, all_weaker, all
 use Rattle.rt_value.proofs.Moves.{Moves, then_to, moves_same}
 use Rattle.rt_phx.specs.declared.message.Message.{Message}
 use Rattle.rt_phx.specs.declared.end.EndName.{EndName}
+use Rattle.rt_presence.specs.Trees.{Held}
+use Rattle.rt_presence.specs.Reading.{metas_in, after_difference}
 use Rattle.rt_entry.specs.declared.story.Channel.{Channel}
 use Rattle.rt_entry.specs.declared.story.Member.{Member}
 use Rattle.rt_entry.specs.declared.story.Track.{Track}
 use Rattle.rt_entry.specs.declared.story.Part.{Part}
 use Rattle.rt_entry.specs.declared.story.Part.TheVariants.{Opens, Ends, Tells, Joins, Renews, Tracks, Untracks, Departs}
 use Rattle.rt_entry.specs.Story.{Now, has, departed_by, departed_in, tracked_by}
-use Rattle.rt_entry.specs.Messages.{presence_diff, close_message, failed_message}
+use Rattle.rt_entry.specs.Messages.{presence_diff, close_message, failed_message, shown_meta}
 use Rattle.rt_entry.specs.Doings.{in_turn, channels_of, track_of, watches, diff_to, leave_diffs, depart, end_of, close, fail}
-use Rattle.rt_entry.specs.Presence.{Held, metas_in, after_difference, client_view, after_message, shown_meta}
+use Rattle.rt_entry.specs.Presence.{client_view, after_message}
 use Rattle.rt_laws.specs.After.{tracks_in}
 use Rattle.rt_laws.specs.Departures.{leave_for}
 use Rattle.rt_laws.specs.Views.{leaves_in}

@@ -6,8 +6,8 @@ use Rattle.rt_entry.specs.declared.input.Input.TheVariants.{Opened, Frame, Gone,
 use Rattle.rt_entry.specs.declared.input.Settings.{Settings}
 use Rattle.rt_entry.specs.declared.story.Member.{Member}
 use Rattle.rt_entry.specs.Story.{has, departed_in}
-use Rattle.rt_entry.specs.Messages.{presence_state}
-use Rattle.rt_entry.specs.Presence.{client_view, shown_meta, present_on}
+use Rattle.rt_entry.specs.Messages.{presence_state, shown_meta}
+use Rattle.rt_entry.specs.Presence.{client_view, present_on}
 use Rattle.rt_laws.specs.After.{done_by}
 use Rattle.rt_laws.specs.Departures.{heard}
 use Rattle.rt_laws.specs.Members.{members_of_journal}

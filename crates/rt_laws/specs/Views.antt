@@ -1,10 +1,11 @@
 -- What a client reads of presence messages.
 use Rattle.std.specs.Prelude.{◌==◌, ◌<◌, ◌^◌, Bool, not, ⊤, List, [], ◌∷◌, ◌++◌, map, IsPermutation}
 use Rattle.std.specs.List.{filter, list_any}
+use Rattle.rt_presence.specs.Trees.{Held}
 use Rattle.rt_entry.specs.declared.story.Channel.{Channel}
 use Rattle.rt_entry.specs.declared.story.Track.{Track}
-use Rattle.rt_entry.specs.Messages.{presence_state, presence_diff}
-use Rattle.rt_entry.specs.Presence.{Held, client_view, shown_meta}
+use Rattle.rt_entry.specs.Messages.{presence_state, presence_diff, shown_meta}
+use Rattle.rt_entry.specs.Presence.{client_view}
 
 -- the tracks that join and those that leave
 pub record Difference : Type 0 where

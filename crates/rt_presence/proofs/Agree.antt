@@ -16,7 +16,8 @@ use Rattle.rt_presence.specs.Tracks.{Standing, track_cmp, is_of, put, track_of, 
 use Rattle.rt_presence.specs.Index.{place_of}
 use Rattle.rt_presence.specs.Trees.{Held, shown, on_topic, difference_tree, joins_of, leaves_of, under}
 use Rattle.rt_presence.specs.Calls.{Call, tracks, ends, after_calls, is_by}
-use Rattle.rt_presence.specs.Client.{reference_of, is_among, after_difference, answered, client_view, IsAfter, AreNumbered, ClientsAgree}
+use Rattle.rt_presence.specs.Reading.{reference_of, is_among, after_difference}
+use Rattle.rt_presence.specs.Client.{answered, client_view, IsAfter, AreNumbered, ClientsAgree}
 use Rattle.rt_presence.proofs.Orders.{of_place, at_place}
 use Rattle.rt_presence.proofs.Places.{none_found}
 use Rattle.rt_presence.proofs.Stands.{put_only, only_stay, Put, flip, same_bool}
@@ -257,7 +258,7 @@ module _ (topic : List ℕ) where
       let S = after_calls (later ++ before) in
       let ds = answered topic c S in
       then_to (after_difference held (difference_tree ds)) (told (view S) ds) (view (after_calls (c ∷ later ++ before)))
-      (difference_read held (view S) ds (agree before later (earlier c (later ++ before) n))) (step c (later ++ before) n)
+      (difference_read held (view S) (joins_of ds) (leaves_of ds) (agree before later (earlier c (later ++ before) n))) (step c (later ++ before) n)
 
 pub clients_agree : ClientsAgree
 clients_agree topic before later n = permuted (client_view topic before later) (map shown (on_topic topic (after_calls (later ++ before)))) (agree topic before later n)

@@ -17,9 +17,8 @@ use Rattle.rt_json.specs.declared.tree.named.Member.{Member}
 use Rattle.rt_json.specs.Lookup.{or_else, last_named, members_of}
 use Rattle.rt_json.specs.Trees.{field, list_of, text_of}
 use Rattle.rt_json.proofs.Lookups.{object_members, object_at, list_items}
-use Rattle.rt_presence.specs.declared.differences.Diff.{Diff}
-use Rattle.rt_presence.specs.Trees.{Held, is_kept, meta_object, under_key, metas_of, metas_tree, joins_of, leaves_of, difference_tree}
-use Rattle.rt_presence.specs.Client.{metas_under, metas_in, reference_of, part_of, is_among, after_difference}
+use Rattle.rt_presence.specs.Trees.{Held, is_kept, meta_object, under_key, metas_of, metas_tree, joins_and_leaves}
+use Rattle.rt_presence.specs.Reading.{metas_under, metas_in, reference_of, part_of, is_among, after_difference}
 use Rattle.rt_presence.proofs.Groups.{all_unmap, keys}
 
 flat_of_map : {A B C : Type 0} (f : B → List C) (g : A → B) (xs : List A) → flat_map f (map g xs) ≡ flat_map (λ x. f (g x)) xs
@@ -92,24 +91,26 @@ same_text m n a b = elim (eqb_tells m n) [
 ]
 
 -- one difference
-pub difference_read : (held seen : List Held) (ds : List Diff) → Moves held seen
-    → Moves (after_difference held (difference_tree ds)) (filter (λ h. not (is_among (leaves_of ds) h)) (seen ++ joins_of ds))
-difference_read held seen ds m =
-    let ms : List Member = field (codes "joins") (metas_tree (joins_of ds)) ∷ field (codes "leaves") (metas_tree (leaves_of ds)) ∷ [] in
+pub difference_read : (held seen joins leaves : List Held) → Moves held seen
+    → Moves (after_difference held (joins_and_leaves joins leaves)) (filter (λ h. not (is_among leaves h)) (seen ++ joins))
+difference_read held seen joins leaves m =
+    let ms : List Member = field (codes "joins") (metas_tree joins) ∷ field (codes "leaves") (metas_tree leaves) ∷ [] in
     let tree = j.Object ms in
-    let js = metas_in (metas_tree (joins_of ds)) in
-    let ls = metas_in (metas_tree (leaves_of ds)) in
+    let js = metas_in (metas_tree joins) in
+    let ls = metas_in (metas_tree leaves) in
     let stays : List Held → Held → Bool = λ gone h. not (is_among gone h) in
     let joined : part_of (codes "joins") tree ≡ js = ap (λ (o : Option Json). metas_in (unwrap_or o (j.Object []))) (object_at ms (codes "joins")) in
     let left : part_of (codes "leaves") tree ≡ ls = ap (λ (o : Option Json). metas_in (unwrap_or o (j.Object []))) (object_at ms (codes "leaves")) in
     let is : after_difference held tree ≡ filter (stays ls) (held ++ js) =
     ap (λ (x : List Held). filter (stays x) (held ++ part_of (codes "joins") tree)) left ∙ ap (λ (x : List Held). filter (stays ls) (held ++ x)) joined in
-    let alike : (h : Held) → stays ls h ≡ stays (leaves_of ds) h = λ h. ap not (moves_any (λ g. bytes_eq (reference_of g) (reference_of h)) ls (leaves_of ds) (read_again (leaves_of ds))) in
-    let all = seen ++ joins_of ds in
+    let alike : (h : Held) → stays ls h ≡ stays leaves h =
+    λ h. ap not (moves_any (λ g. bytes_eq (reference_of g) (reference_of h)) ls leaves (read_again leaves)) in
+    let all = seen ++ joins in
     let both : Moves (held ++ js) all =
-    then_to (held ++ js) (seen ++ js) all (moves_left js held seen m) (moves_right seen js (joins_of ds) (read_again (joins_of ds))) in
-    then_to (after_difference held tree) (filter (stays ls) (held ++ js)) (filter (stays (leaves_of ds)) all)
+    then_to (held ++ js) (seen ++ js) all (moves_left js held seen m) (moves_right seen js joins (read_again joins)) in
+    then_to (after_difference held tree) (filter (stays ls) (held ++ js)) (filter (stays leaves) all)
     (moves_same (after_difference held tree) (filter (stays ls) (held ++ js)) is)
-    (then_to (filter (stays ls) (held ++ js)) (filter (stays ls) all) (filter (stays (leaves_of ds)) all)
+    (then_to (filter (stays ls) (held ++ js)) (filter (stays ls) all) (filter (stays leaves) all)
     (moves_filter (stays ls) (held ++ js) all both)
-    (moves_same (filter (stays ls) all) (filter (stays (leaves_of ds)) all) (filter_alike (stays ls) (stays (leaves_of ds)) all (all_every (λ h. stays ls h ≡ stays (leaves_of ds) h) all alike))))
+    (moves_same (filter (stays ls) all) (filter (stays leaves) all)
+    (filter_alike (stays ls) (stays leaves) all (all_every (λ h. stays ls h ≡ stays leaves h) all alike))))

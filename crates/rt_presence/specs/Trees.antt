@@ -45,6 +45,10 @@ metas_of held key = metas_member key (under_key held key)
 abbrev pub metas_tree : List Held → Json
 metas_tree held = j.Object (map (metas_of held) (in_order (slice_cmp nat_cmp) (map (λ h. h.0) held)))
 
+-- who joined and who left, as one tree
+abbrev pub joins_and_leaves : List Held → List Held → Json
+joins_and_leaves joins leaves = j.Object (field (codes "joins") (metas_tree joins) ∷ field (codes "leaves") (metas_tree leaves) ∷ [])
+
 abbrev pub shown : Standing → Held
 shown t = (t.0.key, meta_tree (meta_of t))
 
@@ -66,7 +70,7 @@ leaves_of ds = filter_map (λ d. option_map (under d.key) d.left) ds
 
 -- the differences as one tree
 abbrev pub difference_tree : List Diff → Json
-difference_tree ds = j.Object (field (codes "joins") (metas_tree (joins_of ds)) ∷ field (codes "leaves") (metas_tree (leaves_of ds)) ∷ [])
+difference_tree ds = joins_and_leaves (joins_of ds) (leaves_of ds)
 
 -- keys, each with metas under it
 abbrev pub Groups : Type 0
