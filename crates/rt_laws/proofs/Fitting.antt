@@ -1,5 +1,5 @@
 -- What is read of a text fits: its texts are UTF-8, its numbers of the grammar, and it nests as deep as its levels.
-use Rattle.std.proofs.Common.{◌≡◌, ℕ, zero, suc, ◌+◌, ◌<◌, Bool, true, false, List, [], ◌∷◌, ◌++◌, cond, inr, Option, Some, None, sym, subst, arith}
+use Rattle.std.proofs.Common.{◌≡◌, ℕ, zero, suc, ◌+◌, ◌<◌, Bool, true, false, List, [], ◌∷◌, cond, inr, Option, Some, None, sym, subst, arith}
 use Rattle.std.specs.Prelude.{⊤, IsUtf8, encode_utf8, ◌==◌, ◌||◌}
 use Rattle.std.specs.List.{AllByRecursion}
 use Rattle.std.proofs.lemmas.Bool.{cond_both}
@@ -17,7 +17,7 @@ use Rattle.rt_json.specs.declared.tree.Json.TheVariants as j
 use Rattle.rt_json.specs.declared.tree.named.Member.{Member}
 use Rattle.rt_json.specs.Lookup.{last_named, or_else, members_of, member_of}
 use Rattle.std.specs.Str.{bytes_eq}
-use Rattle.rt_value.proofs.Plain.{Maybe}
+use Rattle.rt_value.proofs.Plain.{Maybe, all_append, all_weaker}
 use Rattle.rt_json.proofs.Lookups.{object_members}
 use Rattle.rt_json.proofs.Hex.{low_range, high_range}
 use Rattle.rt_json.proofs.Utf8.{is_a_scalar}
@@ -91,10 +91,6 @@ list_fits levels items h = subst (FitsOver (FitsWithin levels)) (sym (outs-List 
 pub object_fits : (levels : ℕ) (members : List Member) → AllByRecursion (MemberFits levels) members → FitsWithin (suc levels) (j.Object members)
 object_fits levels members h = subst (FitsOver (FitsWithin levels)) (sym (outs-Object members)) h
 
-pub recursed_more : {A : Type 0} (B : A → Type 0) (xs ys : List A) → AllByRecursion B xs → AllByRecursion B ys → AllByRecursion B (xs ++ ys)
-recursed_more B [] ys a b = b
-recursed_more B (x ∷ xs) ys a b = (a.0, recursed_more B xs ys a.1 b)
-
 mutual
   value_fits : {n : ℕ} {v : Json} {xs ys : List ℕ} → IsValue n v xs ys → FitsWithin n v
   value_fits (g.null {n = n}) = null_fits n
@@ -111,7 +107,7 @@ mutual
       → AllByRecursion (FitsWithin n) all
   items_fit (g.close_list bl) h = h
   items_fit (g.next_item {n = n} {v = v} {before = before} a b is more) h = items_fit more
-      (recursed_more (FitsWithin n) before (v ∷ []) h (value_fits is, tt))
+      (all_append (FitsWithin n) before (v ∷ []) h (value_fits is, tt))
 
   member_fits : {n : ℕ} {m : Member} {xs ys : List ℕ} → IsMember n m xs ys → MemberFits n m
   member_fits (g.named ba name bl bm is) = (text_utf8 name, value_fits is)
@@ -120,17 +116,13 @@ mutual
       → AllByRecursion (MemberFits n) all
   members_fit (g.close_object bl) h = h
   members_fit (g.next_member {n = n} {m = m} {before = before} a is more) h = members_fit more
-      (recursed_more (MemberFits n) before (m ∷ []) h (member_fits is, tt))
+      (all_append (MemberFits n) before (m ∷ []) h (member_fits is, tt))
 
 -- what a text is read as fits in its levels
 pub read_fits : (levels : ℕ) (tree : Json) (bytes : List ℕ) → IsWithin levels tree bytes → FitsWithin levels tree
 read_fits levels tree bytes w = value_fits w.value
 
 -- with more levels it fits as well
-
-recursed_weaker : {A : Type 0} (B D : A → Type 0) → ((x : A) → B x → D x) → (xs : List A) → AllByRecursion B xs → AllByRecursion D xs
-recursed_weaker B D f [] h = tt
-recursed_weaker B D f (x ∷ xs) h = (f x h.0, recursed_weaker B D f xs h.1)
 
 flat_more : (F : Json → Type 0) (layer : Json-F Json Member) → FitsFlat layer → FitsOver F layer
 flat_more F Json-F.Null h = h
@@ -145,9 +137,9 @@ over_more F G f Json-F.Null h = h
 over_more F G f (Json-F.Bool b) h = h
 over_more F G f (Json-F.Num text) h = h
 over_more F G f (Json-F.Text text) h = h
-over_more F G f (Json-F.List items) h = recursed_weaker F G f items h
+over_more F G f (Json-F.List items) h = all_weaker F G items f h
 over_more F G f (Json-F.Object members) h =
-    recursed_weaker (λ (m : Member). IsUtf8 m.name × F m.value) (λ (m : Member). IsUtf8 m.name × G m.value) (λ m k. (k.0, f m.value k.1)) members h
+    all_weaker (λ (m : Member). IsUtf8 m.name × F m.value) (λ (m : Member). IsUtf8 m.name × G m.value) members (λ m k. (k.0, f m.value k.1)) h
 
 fits_next : (levels : ℕ) (tree : Json) → FitsWithin levels tree → FitsWithin (suc levels) tree
 fits_next zero tree h = flat_more (FitsWithin zero) (out-Json tree) h

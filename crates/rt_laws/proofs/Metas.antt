@@ -34,7 +34,8 @@ fit_all [] h = tt
 fit_all (t ∷ ts) h = (h.0, fit_all ts h.1)
 
 -- who leaves, as a client reads it
-reads_leave : (leaves : List Track) (t : Track) → Fit leaves → t.reference < 2 ^ 64 → is_among (map shown_meta leaves) (shown_meta t) ≡ leaves_in leaves t
+reads_leave : (leaves : List Track) (t : Track) → Fit leaves → t.reference < 2 ^ 64
+    → is_among (map shown_meta leaves) (shown_meta t) ≡ leaves_in leaves t
 reads_leave leaves t f lt =
     let p : Held → Bool = λ g. bytes_eq (reference_of g) (reference_of (shown_meta t)) in
     any_of_map p shown_meta leaves

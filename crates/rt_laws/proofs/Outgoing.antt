@@ -1,8 +1,8 @@
 -- Each message that the server builds is readable.
-use Rattle.std.proofs.Common.{◌≡◌, ℕ, suc, ◌+◌, ◌<◌, ◌≤◌, Bool, true, false, cond, List, [], ◌∷◌, ◌++◌, map, length, Option, Some, None, refl, arith}
+use Rattle.std.proofs.Common.{◌≡◌, ℕ, suc, ◌+◌, ◌<◌, ◌≤◌, true, List, [], ◌∷◌, ◌++◌, map, length, Option, Some, None, refl, arith}
 use Rattle.std.specs.Prelude.{◌^◌, IsUtf8, codes}
 use Rattle.std.specs.Fmt.{decimal}
-use Rattle.std.specs.List.{filter, enumerate_from, list_all, AllByRecursion}
+use Rattle.std.specs.List.{filter, enumerate_from, list_all}
 use Rattle.std.specs.Str.{bytes_eq}
 use Rattle.std.specs.Ordering.{nat_cmp}
 use Rattle.std.specs.declared.cmp.Ordering.{Ordering}
@@ -61,16 +61,6 @@ pub record TrackFits (t : Track) : Type 0 where
   pub tree : FitsWithin 62 t.tree
 
 -- lists
-
-pub recursed : {A : Type 0} (B : A → Type 0) (xs : List A) → AllOf B xs → AllByRecursion B xs
-recursed B [] h = tt
-recursed B (x ∷ xs) h = (h.0, recursed B xs h.1)
-
-recursed_filter : {A : Type 0} (B : A → Type 0) (p : A → Bool) (xs : List A) → AllByRecursion B xs → AllByRecursion B (filter p xs)
-recursed_filter B p [] a = tt
-recursed_filter B p (x ∷ xs) a =
-    elim (p x) as (λ t. AllByRecursion B (cond t (x ∷ filter p xs) (filter p xs)))
-    [ true ↦ (a.0, recursed_filter B p xs a.1) | false ↦ recursed_filter B p xs a.1 ]
 
 module _ {K : Type 0} (cmp : K → K → Ordering) (B : K → Type 0) where
   put_all : (o : Ordering) (k l : K) (ls more : List K) → B k → AllOf B (l ∷ ls) → AllOf B more → AllOf B (inserted_by cmp o k l ls more)
@@ -172,7 +162,7 @@ binding_fits n below b le h =
       ),
     )
     (maybe_text n (codes "filter") b.1.binding.filter refl f.filter) in
-    object_fits n (front ++ filter) (recursed (MemberFits n) (front ++ filter) fits)
+    object_fits n (front ++ filter) fits
 
 module _ (ch : Channel) (f : ChannelFits ch) where
   on_channel : (event : List ℕ) (payload : Json) → list_all is_ascii_byte event ≡ true → FitsWithin 66 payload
@@ -204,9 +194,8 @@ module _ (ch : Channel) (f : ChannelFits ch) where
       let below = ch.first_id + length ch.bindings in
       let small = f.ids in
       let numbered = enumerate_from ch.first_id ch.bindings in
-      let trees = recursed (FitsWithin 63) (map binding_tree numbered)
-      (all_map_of (FitsWithin 63) (Numbered below SubscribedFits) binding_tree numbered (λ b h. binding_fits 62 below b (omega arith) h)
-      (numbered_all SubscribedFits ch.first_id below ch.bindings (omega arith) f.bindings)) in
+      let trees = all_map_of (FitsWithin 63) (Numbered below SubscribedFits) binding_tree numbered (λ b h. binding_fits 62 below b (omega arith) h)
+      (numbered_all SubscribedFits ch.first_id below ch.bindings (omega arith) f.bindings) in
       object_fits 64 (field (codes "postgres_changes") (j.List (map binding_tree numbered)) ∷ [])
       ((word (codes "postgres_changes") refl, list_fits 63 (map binding_tree numbered) trees), tt)
 
@@ -223,7 +212,7 @@ module _ (ch : Channel) (f : ChannelFits ch) where
     h.key,
     object_fits 61 (field (codes "phx_ref") (Text (decimal t.reference)) ∷ filter is_kept (members_of t.tree)) (
       text_member 61 (codes "phx_ref") (decimal t.reference) refl (decimal_utf8 t.reference h.reference),
-      recursed_filter (MemberFits 61) is_kept (members_of t.tree) (members_fits 61 t.tree h.tree),
+      all_filter (MemberFits 61) is_kept (members_of t.tree) (members_fits 61 t.tree h.tree),
     ),
   )
 
@@ -232,9 +221,8 @@ module _ (ch : Channel) (f : ChannelFits ch) where
 
   key_metas : (held : List Held) (key : List ℕ) → AllOf HeldFits held → IsUtf8 key → MemberFits 64 (metas_of held key)
   key_metas held key a u =
-      let own = filter (λ (h : Held). bytes_eq h.0 key) held in
-      let metas = recursed (FitsWithin 62) (under_key held key)
-      (all_map_of (FitsWithin 62) HeldFits (λ (h : Held). h.1) own (λ h f. f.1) (all_filter HeldFits (λ (h : Held). bytes_eq h.0 key) held a)) in (
+      let own = all_filter HeldFits (λ (h : Held). bytes_eq h.0 key) held a in
+      let metas = all_map_of (FitsWithin 62) HeldFits (λ (h : Held). h.1) (filter (λ (h : Held). bytes_eq h.0 key) held) (λ h f. f.1) own in (
         u,
         object_fits 63 (field (codes "metas") (j.List (under_key held key)) ∷ [])
             ((word (codes "metas") refl, list_fits 62 (under_key held key) metas), tt),
@@ -246,8 +234,7 @@ module _ (ch : Channel) (f : ChannelFits ch) where
       let order = slice_cmp nat_cmp in
       let ordered = ordered_all order IsUtf8 keys (all_map_of IsUtf8 HeldFits (λ (h : Held). h.0) held (λ h f. f.0) a) in
       object_fits 64 (map (metas_of held) (in_order order keys))
-      (recursed (MemberFits 64) (map (metas_of held) (in_order order keys))
-      (all_map_of (MemberFits 64) IsUtf8 (metas_of held) (in_order order keys) (λ key u. key_metas held key a u) ordered))
+      (all_map_of (MemberFits 64) IsUtf8 (metas_of held) (in_order order keys) (λ key u. key_metas held key a u) ordered)
 
   pub state_readable : (tracks : List Track) → AllOf TrackFits tracks → IsReadable 66 (presence_state ch tracks)
   state_readable tracks a =
@@ -267,8 +254,7 @@ module _ (ch : Channel) (f : ChannelFits ch) where
 pub change_readable : (to : ChannelView) (ids : List ℕ) (tree : Json) → IsRef to.join_ref → IsUtf8 to.topic → AllOf Small ids → FitsWithin 63 tree
     → IsReadable 66 (change_message to ids tree)
 change_readable to ids tree ref topic small h =
-    let numbers = recursed (FitsWithin 64) (map number_tree ids)
-    (all_map_of (FitsWithin 64) Small number_tree ids (λ n s. number_tree_fits 64 n s) small) in
+    let numbers = all_map_of (FitsWithin 64) Small number_tree ids (λ n s. number_tree_fits 64 n s) small in
     record {
       join_ref = ref;
       reference = tt;

@@ -20,7 +20,7 @@ use Rattle.rt_change.specs.Shape.{verb_name, error_list, is_large, shown_columns
 use Rattle.rt_laws.proofs.Fitting.{MemberFits, null_fits, text_fits, list_fits, object_fits}
 use Rattle.rt_laws.proofs.Texts.{word}
 use Rattle.rt_laws.proofs.Incoming.{bind_of, if_of, unwrap_of}
-use Rattle.rt_laws.proofs.Outgoing.{recursed, text_member}
+use Rattle.rt_laws.proofs.Outgoing.{text_member}
 
 -- trees as they stand in a line
 pub record ChangeFits (ch : Change) : Type 0 where
@@ -51,14 +51,10 @@ got B [] n a = tt
 got B (x ∷ xs) zero a = a.0
 got B (x ∷ xs) (suc n) a = got B xs n a.1
 
-listed : {A : Type 0} (B : A → Type 0) (xs : List A) → AllByRecursion B xs → AllOf B xs
-listed B [] a = tt
-listed B (x ∷ xs) a = (a.0, listed B xs a.1)
-
 module _ (c : Catalog) (names : HasReadableNames c) where
   table_readable : (n : ℕ) → IsReadableTable (table_at c n)
   table_readable n =
-      unwrap_of IsReadableTable (slice_get c.tables n) no_table (got IsReadableTable c.tables n (listed IsReadableTable c.tables names))
+      unwrap_of IsReadableTable (slice_get c.tables n) no_table (got IsReadableTable c.tables n names)
       (record { schema = word [] refl; name = word [] refl; columns = tt })
 
   module _ (role max : ℕ) (ch : Change) (f : ChangeFits ch) where
@@ -89,8 +85,7 @@ module _ (c : Catalog) (names : HasReadableNames c) where
         → FitsWithin 62 (record_of c role max ch columns trees)
     record_fits columns trees named a =
         let members = filter_map (field_of c role max ch trees) columns in
-        object_fits 61 members (recursed (MemberFits 61) members
-        (all_filter_map Named (MemberFits 61) (field_of c role max ch trees) columns (field_fits trees a) named))
+        object_fits 61 members (all_filter_map Named (MemberFits 61) (field_of c role max ch trees) columns (field_fits trees a) named)
 
     verb_utf8 : (v : Verb) → IsUtf8 (verb_name v)
     verb_utf8 Insert = word (codes "INSERT") refl
@@ -127,8 +122,7 @@ module _ (c : Catalog) (names : HasReadableNames c) where
     refused_fits text u =
         let errors = field (codes "errors") (error_list text) ∷ [] in
         object_fits 62 (head c role max ch ++ errors)
-        (recursed (MemberFits 62) (head c role max ch ++ errors)
-        (all_append (MemberFits 62) (head c role max ch) errors head_fits ((word (codes "errors") refl, error_fits text u), tt)))
+        (all_append (MemberFits 62) (head c role max ch) errors head_fits ((word (codes "errors") refl, error_fits text u), tt))
 
     moment_fits : (o : Option (List ℕ)) → Maybe IsUtf8 o → FitsWithin 62 (unwrap_or (option_map Text o) Null)
     moment_fits None h = null_fits 62
@@ -138,10 +132,9 @@ module _ (c : Catalog) (names : HasReadableNames c) where
     columns_fit =
         let shown = shown_columns c role max ch in
         list_fits 61 (map (column_tree c role max ch) shown)
-        (recursed (FitsWithin 61) (map (column_tree c role max ch) shown)
         (all_map_of (FitsWithin 61) Named (column_tree c role max ch) shown (λ n h.
         object_fits 60 (field (codes "name") (Text n.1.name) ∷ field (codes "type") (Text n.1.shown) ∷ [])
-        (text_member 60 (codes "name") n.1.name refl h.name, (text_member 60 (codes "type") n.1.shown refl h.shown, tt))) shown_named))
+        (text_member 60 (codes "name") n.1.name refl h.name, (text_member 60 (codes "type") n.1.shown refl h.shown, tt))) shown_named)
 
     errors_fit : (b : Bool) → FitsWithin 62 (if b then error_list (codes "Error 413: Payload Too Large") else Null)
     errors_fit true = error_fits (codes "Error 413: Payload Too Large") (word (codes "Error 413: Payload Too Large") refl)
@@ -158,7 +151,7 @@ module _ (c : Catalog) (names : HasReadableNames c) where
         (all_append (MemberFits 62) front middle head_fits
         ((word (codes "commit_timestamp") refl, moment_fits ch.moment f.moment), ((word (codes "columns") refl, columns_fit), records_fit ch.verb)))
         ((word (codes "errors") refl, errors_fit (is_large c role max ch)), tt) in
-        object_fits 62 ((front ++ middle) ++ last) (recursed (MemberFits 62) ((front ++ middle) ++ last) fits)
+        object_fits 62 ((front ++ middle) ++ last) fits
 
     pub shape_fits : FitsWithin 63 (shape_of c role max ch)
     unfolding shape_of

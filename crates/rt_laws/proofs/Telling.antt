@@ -24,8 +24,7 @@ use Rattle.rt_laws.proofs.Clients.{story_length}
 use Rattle.rt_value.proofs.Plain.{AllOf, all_among, all_append, all_map_of, all_filter, Maybe}
 use Rattle.rt_laws.proofs.Journals.{line_of, shape_next, story_shaped, story_grows}
 use Rattle.rt_laws.proofs.Sound.{joins_well}
-use Rattle.rt_laws.proofs.Fitting.{recursed_more}
-use Rattle.rt_laws.proofs.Outgoing.{ChannelFits, TrackFits, recursed}
+use Rattle.rt_laws.proofs.Outgoing.{ChannelFits, TrackFits}
 use Rattle.rt_laws.proofs.Shaping.{all_filter_map}
 use Rattle.rt_laws.proofs.Accepting.{NowFits}
 use Rattle.rt_laws.proofs.Doing.{PartFits, InputFits, HeldFits, doings_fit}
@@ -182,6 +181,6 @@ module _ (c : Catalog) (s : Settings) (names : HasReadableNames c) where
           → AllByRecursion (IsReadable 66) (elim b as (λ t. List Message)
           [ true ↦ said_since c s ch before ++ filter_map said_by (told ch.slot (answers c s before i)) | false ↦ [] ])
       by true more =
-          recursed_more (IsReadable 66) (said_since c s ch before) (filter_map said_by (told ch.slot (answers c s before i))) more
-          (recursed (IsReadable 66) (filter_map said_by (told ch.slot (answers c s before i))) (told_fits before i ch.slot (omega arith) a.1 a.0))
+          all_append (IsReadable 66) (said_since c s ch before) (filter_map said_by (told ch.slot (answers c s before i))) more
+          (told_fits before i ch.slot (omega arith) a.1 a.0)
       by false more = tt
