@@ -36,14 +36,6 @@ fn words_of(rt: &HostRuntime) -> io::Result<Vec<String>> {
     Ok(words)
 }
 
-/// The word at a place, empty where there is none.
-fn word_at<'a>(words: &[&'a str], at: usize) -> &'a str {
-    match words.get(at) {
-        Some(word) => word,
-        None => "",
-    }
-}
-
 fn main(rt: HostRuntime) -> ExitCode {
     let Ok(owned) = words_of(&rt) else {
         return ExitCode::from(Status::NoMemory as u8);
@@ -56,8 +48,11 @@ fn main(rt: HostRuntime) -> ExitCode {
         return ExitCode::from(Status::NoMemory as u8);
     };
     let words = words.as_slice();
-    let mut catalogue = StandardSource::new(fs::open(&rt, word_at(words, 1)));
-    let mut script = StandardSource::new(open_script(&rt, word_at(words, 2)));
+    // Where a word is missing, `replay` refuses the words before it reads.
+    let catalogue_place = words.get(1).copied().unwrap_or("");
+    let script_place = words.get(2).copied().unwrap_or("");
+    let mut catalogue = StandardSource::new(fs::open(&rt, catalogue_place));
+    let mut script = StandardSource::new(open_script(&rt, script_place));
     let mut out = StandardSink::new(rt.stdout());
     let mut err = StandardSink::new(rt.stderr());
     let status = replay(

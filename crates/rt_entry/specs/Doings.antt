@@ -1,4 +1,4 @@
--- What each input does, by cases, ask_parts of all that stands before it (the Realtime protocol, "Channels", "Broadcast", "Presence", "Postgres Changes").
+-- What each input does, by cases, asked of all that stands before it (the Realtime protocol, "Channels", "Broadcast", "Presence", "Postgres Changes").
 use Rattle.std.specs.Prelude.{ℕ, ◌==◌, ◌+◌, nat_lt, nat_le, Bool, true, false, ◌&&◌, not, if◌then◌else◌, List, [], ◌∷◌, ◌++◌, map, length, codes, find, slice_get, Option, Some, None, option_to_list, Ok, Err}
 use Rattle.std.specs.List.{filter, flat_map, enumerate_from}
 use Rattle.std.specs.Str.{bytes_eq}
@@ -84,7 +84,7 @@ abbrev pub leave_diffs : Now → List ℕ → Option Track → List Part
 leave_diffs now gone None = []
 leave_diffs now gone (Some t) = diffs now gone t.topic [] (t ∷ [])
 
--- a channel departs: where it track_parts, every channel that remains on the topic gets a difference with the leave
+-- a channel departs: where it tracks, every channel that remains on the topic gets a difference with the leave
 abbrev pub depart : Now → List ℕ → Member → List Part
 depart now gone m = Departs m.channel.number ∷ leave_diffs now (m.channel.number ∷ gone) (track_of now m.channel.number)
 
