@@ -194,7 +194,7 @@ before_front items given past cuts p g f =
     ∙ append-nil (flat_map (shown_at cuts) (take past all))
     ∙ sym g.is
 
-front_at : (items : List Item) (past : ℕ) (cuts : List Cut) (p : Placed) (f : Front past cuts (drop past (placed items)) p)
+pub front_at : (items : List Item) (past : ℕ) (cuts : List Cut) (p : Placed) (f : Front past cuts (drop past (placed items)) p)
     → drop p.place (placed items) ≡ p ∷ f.rest
 front_at items past cuts p f = ap (λ n. drop n (placed items)) f.at ∙ drop_add past f.count (placed items) ∙ f.here
 

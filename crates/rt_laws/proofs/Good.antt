@@ -23,6 +23,9 @@ with_all P f n x h all m = elim (eqb_tells m n) [
   | inr t ↦ let e = t.0 in rw (e, with_at) (all m)
 ]
 
+pub not_equal : (n m : ℕ) → (n == m) ≡ false → n ≢ m
+not_equal n m e h = elim (eqb_tells n m) [ inl t ↦ let k = t.0 in absurd (cc) | inr t ↦ t.1 h ]
+
 module _ (c : Catalog) (s : Settings) where
   pub record IsGood (w : World) : Type 0 where
     pub worked : (l : ℕ) → (w.lanes l).worked ≤ (w.lanes l).sent
@@ -67,9 +70,6 @@ module _ (c : Catalog) (s : Settings) where
 
   inlet_good : (w : World) (slot : ℕ) (inputs : List Input) → IsGood w → IsGood (put_inlet slot inputs w)
   inlet_good w slot inputs g = slot_good w slot (record (w.slots slot) { inlet = inputs }) g (g.slots slot)
-
-  not_equal : (n m : ℕ) → (n == m) ≡ false → n ≢ m
-  not_equal n m e h = elim (eqb_tells n m) [ inl t ↦ let k = t.0 in absurd (cc) | inr t ↦ t.1 h ]
 
   sent_good : (w : World) (l : ℕ) → IsGood w → ((w.lanes l).sent == length (lane_marks c s w.journal l)) ≡ false
       → IsGood (with_lane w l (one_sent (w.lanes l)))
@@ -116,7 +116,7 @@ module _ (c : Catalog) (s : Settings) where
   pop_good w slot g = slot_good w slot (one_popped (w.slots slot)) g (g.slots slot)
 
   -- the front of what is pending
-  front_good : (w : World) (slot : ℕ) (p : Placed) (ps : List Placed) → IsGood w → pending c s w slot ≡ p ∷ ps
+  pub front_good : (w : World) (slot : ℕ) (p : Placed) (ps : List Placed) → IsGood w → pending c s w slot ≡ p ∷ ps
       → Front (w.slots slot).past (w.slots slot).cuts (drop (w.slots slot).past (placed (worked_items c s w slot))) p
   unfolding pending
   front_good w slot p ps g e =
@@ -175,6 +175,16 @@ module _ (c : Catalog) (s : Settings) where
         (ap (λ ms. items_for slot (answers_of_marks c s (take 0 ms))) (lane_none c s (lane_of c s slot)) ∙ ap (items_for slot) (no_marks c s));
   }
 
+  -- what a lane's worker has made is a front of what is due
+  pub due_more : (w : World) (slot : ℕ) → (rest : List Item) × (due c s w.journal slot ≡ worked_items c s w slot ++ rest)
+  due_more w slot =
+      let marks = lane_marks c s w.journal (lane_of c s slot) in
+      let n = (w.lanes (lane_of c s slot)).worked in
+      let found = items_more c s slot (take n marks) (drop n marks) in (
+        found.0,
+        sym (lane_due c s slot w.journal) ∙ ap (λ ms. items_for slot (answers_of_marks c s ms)) (sym (take-append-drop n marks)) ∙ found.1,
+      )
+
   pub good_serves : (w : World) (slot : ℕ) → IsGood w → IsServed c s w slot
   unfolding pending
   good_serves w slot g =
@@ -182,12 +192,10 @@ module _ (c : Catalog) (s : Settings) where
       let x = w.slots slot in
       let marks = lane_marks c s w.journal l in
       let n = (w.lanes l).worked in
-      let found = items_more c s slot (take n marks) (drop n marks) in
-      let is : due c s w.journal slot ≡ worked_items c s w slot ++ found.0 =
-      sym (lane_due c s slot w.journal) ∙ ap (λ ms. items_for slot (answers_of_marks c s ms)) (sym (take-append-drop n marks)) ∙ found.1 in
+      let found = due_more w slot in
       record {
         in_order = let P : List Item → Type 0 = λ items. IsPrefixOf x.given (shown items x.cuts) in
-            subst P (sym is) (given_prefix (worked_items c s w slot ++ found.0) x.given x.past x.cuts
+            subst P (sym found.1) (given_prefix (worked_items c s w slot ++ found.0) x.given x.past x.cuts
             (more_items (worked_items c s w slot) found.0 x.given x.past x.cuts (g.slots slot)));
         all_at_rest = λ (rest : IsAtRest c s w slot).
             let all : n ≡ length marks = rest.worked ∙ rest.sent in

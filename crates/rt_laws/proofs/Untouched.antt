@@ -49,11 +49,11 @@ by_case : (w : World) (slot : ℕ) (b : Bool) (x y : Outcome × World) → Keeps
 by_case w slot true x y f g = f
 by_case w slot false x y f g = g
 
-and_right : (a b : Bool) → (a && b) ≡ true → b ≡ true
+pub and_right : (a b : Bool) → (a && b) ≡ true → b ≡ true
 and_right true b h = h
 and_right false b h = absurd (cc)
 
-le_from : (n m : ℕ) → nat_le n m ≡ true → n ≤ m
+pub le_from : (n m : ℕ) → nat_le n m ≡ true → n ≤ m
 le_from n m h = grind (arith, nat_tests)
 
 module _ (c : Catalog) (s : Settings) where

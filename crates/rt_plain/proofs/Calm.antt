@@ -1,8 +1,8 @@
 -- Where each push is followed by its pop, outboxes are empty before each push, and nothing is cut.
-use Rattle.std.proofs.Common.{◌≡◌, ℕ, ◌+◌, ◌-◌, ◌<◌, ◌≤◌, Bool, true, false, ◌&&◌, List, [], ◌∷◌, ◌++◌, length, map, drop, refl, sym, ap, subst, ◌∙◌, arith, length-append, length-drop, inl, inr}
+use Rattle.std.proofs.Common.{◌≡◌, ℕ, ◌+◌, ◌-◌, ◌<◌, ◌≤◌, Bool, true, false, List, [], ◌∷◌, ◌++◌, length, map, drop, refl, sym, ap, subst, ◌∙◌, arith, length-append, length-drop, inl, inr}
 use Rattle.std.specs.Prelude.{⊤, ◌==◌, nat_le}
 use Rattle.std.specs.List.{flat_map}
-use Rattle.std.proofs.lemmas.Bool.Decides.{nat_tests, eqb_tells}
+use Rattle.std.proofs.lemmas.Bool.Decides.{eqb_tells}
 use Rattle.std.proofs.lemmas.List.{drop_all}
 use Rattle.rt_value.proofs.Plain.{AllOf, all_append, all_map}
 use Rattle.rt_catalog.specs.declared.catalog.Catalog.{Catalog}
@@ -16,6 +16,11 @@ use Rattle.rt_entry.specs.Machine.{Slot, Lane, World, Placed, Outcome, done, emp
 use Rattle.rt_script.specs.Running.{every_lane, round, does_nothing, Drains, still, again}
 use Rattle.rt_laws.proofs.Lists.{drop_within}
 use Rattle.rt_laws.proofs.Good.{IsGood, with_all, step_good}
+use Rattle.rt_laws.proofs.Untouched.{and_right, le_from}
+
+-- what a round does with a slot
+abbrev pub pair_of : ℕ → List Step
+pair_of slot = Push slot ∷ Pop slot ∷ []
 
 -- nothing was cut and all that was given was taken away
 pub record Calm (x : Slot) : Type 0 where
@@ -71,14 +76,7 @@ with_others P f n x h all m = elim (eqb_tells m n) [
   | inr t ↦ let e = t.0 in rw (e, with_at) (all m t.1)
 ]
 
-and_right : (a b : Bool) → (a && b) ≡ true → b ≡ true
-and_right true b h = h
-and_right false b h = absurd (cc)
-
-le_from : (n m : ℕ) → nat_le n m ≡ true → n ≤ m
-le_from n m h = grind (arith, nat_tests)
-
-same_number : (n m : ℕ) → (n == m) ≡ true → n ≡ m
+pub same_number : (n m : ℕ) → (n == m) ≡ true → n ≡ m
 same_number n m e = elim (eqb_tells n m) [ inl t ↦ t.1 | inr t ↦ absurd (let k : true ≡ false = sym e ∙ t.0 in cc) ]
 
 drop_none : (k : ℕ) (xs : List Item) → drop k xs ≡ [] → length xs ≤ k
@@ -176,7 +174,7 @@ module _ (c : Catalog) (s : Settings) (room : 0 < s.capacity) where
       lane_run xs w (step_of c s v x).1 k.1 (record { calm = r.0; same = same_then w v (step_of c s v x).1 h.same r.1; good = step_good c s v x h.good })
 
   abbrev pairs : List ℕ → List Step
-  pairs slots = flat_map (λ slot. Push slot ∷ Pop slot ∷ []) slots
+  pairs slots = flat_map pair_of slots
 
   pair_run : (slots : List ℕ) (w v : World) → Still w v → Still w (run c s (pairs slots) v)
   unfolding run

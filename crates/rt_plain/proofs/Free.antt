@@ -33,7 +33,7 @@ module _ (c : Catalog) (s t : Settings) (e : s.secret ≡ t.secret) (f : s.max_r
   abbrev line_with : Settings → Story → Input → Line
   line_with r st i = record { input = i; parts = doings c r (now_of st) (tables_left c st i) i }
 
-  same_story : (journal : List Input) → story c s journal ≡ story c t journal
+  pub same_story : (journal : List Input) → story c s journal ≡ story c t journal
   unfolding story
   same_story [] = refl
   same_story (i ∷ before) =

@@ -17,14 +17,11 @@ use Rattle.rt_entry.specs.Machine.{Lane, World, Placed, Outcome, done, empty, fu
 use Rattle.rt_script.specs.Running.{is_done, every_lane, round, outcomes, does_nothing}
 use Rattle.rt_laws.proofs.Given.{shown_uncut}
 use Rattle.rt_laws.proofs.Good.{IsGood, good_serves}
-use Rattle.rt_plain.proofs.Calm.{CalmWorld, by_test, has_room}
+use Rattle.rt_plain.proofs.Calm.{CalmWorld, by_test, pair_of, same_number, has_room}
 
 or_parts : (a b : Bool) → (a || b) ≡ false → (a ≡ false) × (b ≡ false)
 or_parts true b e = absurd (cc)
 or_parts false b e = (refl, e)
-
-same_number : (n m : ℕ) → (n == m) ≡ true → n ≡ m
-same_number n m e = elim (eqb_tells n m) [ inl t ↦ t.1 | inr t ↦ absurd (let k : true ≡ false = sym e ∙ t.0 in cc) ]
 
 false_of : (b : Bool) → not b ≡ true → b ≡ false
 false_of true e = absurd (cc)
@@ -106,9 +103,6 @@ module _ (c : Catalog) (s : Settings) (room : 0 < s.capacity) where
   unfolding run
   run_idle [] w m a k = refl
   run_idle (x ∷ xs) w m a k = ap (run c s xs) (idle w x m.0 a k.0) ∙ run_idle xs w m.1 a k.1
-
-  abbrev pair_of : ℕ → List Step
-  pair_of slot = Push slot ∷ Pop slot ∷ []
 
   all_make : AllOf Makes (round c s)
   all_make =

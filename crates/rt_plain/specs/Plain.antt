@@ -72,3 +72,21 @@ WorkersAreFree =
     → IsPlain one → IsPlain two → one.steps ≡ two.steps → one.settings.secret ≡ two.settings.secret → one.settings.max_record ≡ two.settings.max_record
     → IsRun c one (ends v) → IsRun c two (ends w)
     → (slot : ℕ) → slot < slot_count → (v.slots slot).given ≡ (w.slots slot).given
+
+-- two plain scripts of the same lines, with the same limits on inputs and rows: only workers, capacity, lane and inlet may differ
+pub record AreAlike (one two : Script) : Type 0 where
+  pub steps : one.steps ≡ two.steps
+  pub secret : one.settings.secret ≡ two.settings.secret
+  pub max_record : one.settings.max_record ≡ two.settings.max_record
+  pub inputs : one.settings.inputs ≡ two.settings.inputs
+  pub rows : one.settings.rows ≡ two.settings.rows
+
+-- a run of the script that ends and gives each slot what the world gave it
+pub record EndsAlike (c : Catalog) (script : Script) (v : World) : Type 0 where
+  pub world : World
+  pub runs : IsRun c script (ends world)
+  pub given : (slot : ℕ) → slot < slot_count → (world.slots slot).given ≡ (v.slots slot).given
+
+-- where one of them runs to its end, so does the other, and gives each slot the same items in the same order
+abbrev pub WorkersEndAlike : Type 0
+WorkersEndAlike = (c : Catalog) (one two : Script) (v : World) → IsPlain one → IsPlain two → AreAlike one two → IsRun c one (ends v) → EndsAlike c two v

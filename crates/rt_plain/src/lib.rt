@@ -1,6 +1,8 @@
-//! The plain schedule of scripts: it gives every slot all that is due to it, for any number of workers.
+//! The runs of scripts: each script has one, and the plain schedule gives every slot all that is due to it, for any number of workers.
 #![tactic(auto)]
 
+mod runs;
 mod schedule;
 
-pub use schedule::{due_is_free, plain_gives_all, workers_are_free};
+pub use runs::{runs_are_one, scripts_run};
+pub use schedule::{due_is_free, plain_gives_all, workers_are_free, workers_end_alike};

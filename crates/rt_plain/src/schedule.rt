@@ -1,4 +1,4 @@
-ghost use Rattle.rt_plain.specs.Plain.{DueIsFree, PlainGivesAll, WorkersAreFree};
+ghost use Rattle.rt_plain.specs.Plain.{DueIsFree, PlainGivesAll, WorkersAreFree, WorkersEndAlike};
 
 /// A run of a script in the plain schedule takes the inputs in their order, cuts no slot, and gives each slot all that is due to it.
 pub fn plain_gives_all()
@@ -13,4 +13,10 @@ pub fn due_is_free()
 /// For any number of workers a script's plain schedule gives each slot the same items in the same order.
 pub fn workers_are_free()
     ensures { WorkersAreFree }
+{}
+
+/// Where a script in the plain schedule runs to its end, so it does with any other number of workers, capacity, lane and inlet of at least 1, and gives
+/// each slot the same items in the same order.
+pub fn workers_end_alike()
+    ensures { WorkersEndAlike }
 {}
