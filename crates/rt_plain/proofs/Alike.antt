@@ -13,15 +13,16 @@ use Rattle.rt_entry.specs.Machine.{World, done, full, start, slot_of, is_tick, p
 use Rattle.rt_script.specs.declared.script.Act.{Act}
 use Rattle.rt_script.specs.declared.script.Act.TheVariants.{One, Drain}
 use Rattle.rt_script.specs.declared.script.Line.{Line}
-use Rattle.rt_script.specs.Running.{take_of, line_of, plain_line, breaks_off, Ending, ends, Runs, at_end, steps, drains}
+use Rattle.rt_script.specs.declared.script.Script.{Script}
+use Rattle.rt_script.specs.Running.{take_of, line_of, plain_line, breaks_off, Ending, ends, Runs, at_end, steps, drains, IsRun}
 use Rattle.rt_laws.proofs.Good.{IsGood, step_good}
-use Rattle.rt_plain.specs.Plain.{AreInputs, inputs_of, WorkersEndAlike}
+use Rattle.rt_plain.specs.Plain.{AreInputs, inputs_of, IsPlain, refused_by, is_refused, HaveRoom, PlainEnds, WorkersEndAlike}
 use Rattle.rt_plain.proofs.Calm.{by_case}
 use Rattle.rt_plain.proofs.Falling as falling
 use Rattle.rt_plain.proofs.Falling.{left}
 use Rattle.rt_plain.proofs.Free.{same_story}
 use Rattle.rt_plain.proofs.Same.{same_given}
-use Rattle.rt_plain.proofs.Taken.{Brings, by_arriving, by_feeding, brings, refused_by, is_refused, HaveRoom, Takes, arrive_two, fed_two, first_input, Between, settled, at_start, from_plain, at_end_of}
+use Rattle.rt_plain.proofs.Taken.{Brings, by_arriving, by_feeding, brings, Takes, arrive_two, fed_two, first_input, Between, settled, at_start, from_plain, at_end_of}
 
 -- what refuses an input is the same for both
 module _ (c : Catalog) (s t : Settings) (secret : s.secret ≡ t.secret) (size : s.max_record ≡ t.max_record) (inputs : s.inputs ≡ t.inputs) (rows : s.rows ≡ t.rows) where
@@ -93,16 +94,25 @@ module _ (c : Catalog) (s : Settings) where
         let rest = lines_on ls one.0 (b.0 ∷ js) k.1 one.1 both.1 in
         (rest.0, one.2 (flat_map plain_line ls) (ends rest.0) rest.1)
 
+-- a plain script whose inputs find room has a run that ends
+run_of : (c : Catalog) (script : Script) → IsPlain script → HaveRoom c script.settings (inputs_of script.steps) [] → (w : World) × IsRun c script (ends w)
+run_of c script p free =
+    let s = script.settings in
+    let w = lines_on c s p.workers p.capacity p.lane p.inlet script.steps start [] p.lines (at_start c s) free in
+    (w.0, from_plain c script w.0 p w.1)
+
+pub plain_ends : PlainEnds
+plain_ends c script p = (λ r. (at_end_of c script r.0 p r.1).1, run_of c script p)
+
 pub end_alike : WorkersEndAlike
 end_alike c one two v p q a r =
     let s = one.settings in
     let t = two.settings in
-    let room = same_room c s t a.secret a.max_record a.inputs a.rows (inputs_of one.steps) [] (at_end_of c one v p r).1 in
-    let there : HaveRoom c t (inputs_of two.steps) [] = subst (λ ls. HaveRoom c t (inputs_of ls) []) a.steps room in
-    let w = lines_on c t q.workers q.capacity q.lane q.inlet two.steps start [] q.lines (at_start c t) there in
-    let runs = from_plain c two w.0 q w.1 in
+    let free = same_room c s t a.secret a.max_record a.inputs a.rows (inputs_of one.steps) [] (at_end_of c one v p r).1 in
+    let there : HaveRoom c t (inputs_of two.steps) [] = subst (λ ls. HaveRoom c t (inputs_of ls) []) a.steps free in
+    let w = run_of c two q there in
     record {
       world = w.0;
-      runs = runs;
-      given = λ slot lt. same_given c two one w.0 v q p (sym a.steps) (sym a.secret) (sym a.max_record) runs r slot lt;
+      runs = w.1;
+      given = λ slot lt. same_given c two one w.0 v q p (sym a.steps) (sym a.secret) (sym a.max_record) w.1 r slot lt;
     }

@@ -1,6 +1,6 @@
 -- In the plain schedule each input goes through its empty list into the journal.
 use Rattle.std.proofs.Common.{◌≡◌, ℕ, ◌<◌, Bool, true, false, List, [], ◌∷◌, ◌++◌, length, reverse, refl, sym, ap, subst, ◌∙◌, arith, append_assoc, append-nil}
-use Rattle.std.specs.Prelude.{⊤, nat_lt, nat_le}
+use Rattle.std.specs.Prelude.{nat_lt, nat_le}
 use Rattle.std.specs.List.{flat_map}
 use Rattle.std.proofs.lemmas.Bool.Decides.{nat_tests}
 use Rattle.std.proofs.lemmas.List.{reverse-append}
@@ -22,7 +22,7 @@ use Rattle.rt_script.specs.Running.{take_of, line_of, plain_line, breaks_off, Dr
 use Rattle.rt_laws.proofs.Good.{IsGood, with_all, step_good, start_good}
 use Rattle.rt_laws.proofs.Marks.{answers_none}
 use Rattle.rt_laws.proofs.Untouched.{at_itself}
-use Rattle.rt_plain.specs.Plain.{IsFed, IsInput, AreInputs, inputs_of, IsPlain, GivesAll}
+use Rattle.rt_plain.specs.Plain.{IsFed, IsInput, AreInputs, inputs_of, IsPlain, is_refused, HaveRoom, GivesAll}
 use Rattle.rt_plain.proofs.Calm.{Calm, CalmWorld, same_world, by_test, with_others, drained}
 use Rattle.rt_plain.proofs.Idle.{gives_due, round_idle}
 
@@ -50,18 +50,6 @@ brings (One (Work l)) k = absurd k
 brings (One (Push n)) k = absurd k
 brings (One (Pop n)) k = absurd k
 brings Drain k = absurd k
-
--- why a take finds no room: the journal has as many inputs as it can take, or too many rows would be left
-abbrev pub refused_by : ℕ → ℕ → ℕ → ℕ → Bool
-refused_by inputs rows taken left = elim (nat_le inputs taken) [ true ↦ true | false ↦ nat_lt rows left ]
-
-abbrev pub is_refused : Catalog → Settings → List Input → Input → Bool
-is_refused c s js i = refused_by s.inputs s.rows (length js) (rows_left c s js i)
-
--- inputs find room, one behind another
-abbrev pub HaveRoom : Catalog → Settings → List Input → List Input → Type 0
-HaveRoom c s [] js = ⊤
-HaveRoom c s (i ∷ is) js = (is_refused c s js i ≡ false) × HaveRoom c s is (i ∷ js)
 
 refused_or : (a b : Bool) (x y z : Outcome × World) → breaks_off x.0 ≡ true → breaks_off y.0 ≡ true → breaks_off z.0 ≡ false
     → let r : Outcome × World = elim a as

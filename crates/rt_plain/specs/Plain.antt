@@ -1,5 +1,5 @@
 -- The plain schedule: each input of a script is taken at once, and then all is done that can be done.
-use Rattle.std.specs.Prelude.{◌≡◌, ℕ, ◌<◌, false, List, [], ◌∷◌, reverse, Option, Some, None, ⊤}
+use Rattle.std.specs.Prelude.{◌≡◌, ◌↔◌, ℕ, ◌<◌, nat_lt, nat_le, Bool, true, false, List, [], ◌∷◌, length, reverse, Option, Some, None, ⊤}
 use Rattle.std.specs.List.{filter_map}
 use Rattle.rt_catalog.specs.declared.catalog.Catalog.{Catalog}
 use Rattle.rt_entry.specs.declared.input.Input.{Input}
@@ -8,7 +8,7 @@ use Rattle.rt_entry.specs.declared.input.Settings.{Settings}
 use Rattle.rt_entry.specs.declared.input.Step.TheVariants.{Arrive, Feed}
 use Rattle.rt_entry.specs.Story.{slot_count}
 use Rattle.rt_entry.specs.Answers.{due}
-use Rattle.rt_entry.specs.Machine.{World}
+use Rattle.rt_entry.specs.Machine.{World, rows_left}
 use Rattle.rt_entry.specs.Headline.{MayArrive}
 use Rattle.rt_script.specs.declared.script.Act.{Act}
 use Rattle.rt_script.specs.declared.script.Act.TheVariants.{One}
@@ -49,6 +49,25 @@ pub record IsPlain (script : Script) : Type 0 where
   pub capacity : 0 < script.settings.capacity
   pub lane : 0 < script.settings.lane
   pub inlet : 0 < script.settings.inlet
+
+-- why a take is refused: the journal has as many inputs as it can take, or too many rows would be left
+abbrev pub refused_by : ℕ → ℕ → ℕ → ℕ → Bool
+refused_by inputs rows taken left = elim (nat_le inputs taken) [ true ↦ true | false ↦ nat_lt rows left ]
+
+-- behind a journal an input is refused
+abbrev pub is_refused : Catalog → Settings → List Input → Input → Bool
+is_refused c s journal i = refused_by s.inputs s.rows (length journal) (rows_left c s journal i)
+
+-- inputs find room behind a journal, one after another
+abbrev pub HaveRoom : Catalog → Settings → List Input → List Input → Type 0
+HaveRoom c s [] journal = ⊤
+HaveRoom c s (i ∷ is) journal = (is_refused c s journal i ≡ false) × HaveRoom c s is (i ∷ journal)
+
+-- a script in the plain schedule runs to its end exactly where all its inputs find room
+abbrev pub PlainEnds : Type 0
+PlainEnds =
+    (c : Catalog) (script : Script) → IsPlain script
+    → ((w : World) × IsRun c script (ends w)) ↔ HaveRoom c script.settings (inputs_of script.steps) []
 
 -- nothing was cut, and each slot was given all that is due to it by the inputs in their order
 pub record GivesAll (c : Catalog) (script : Script) (w : World) : Type 0 where

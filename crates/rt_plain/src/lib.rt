@@ -5,4 +5,4 @@ mod runs;
 mod schedule;
 
 pub use runs::{runs_are_one, scripts_run};
-pub use schedule::{due_is_free, plain_gives_all, workers_are_free, workers_end_alike};
+pub use schedule::{due_is_free, plain_ends, plain_gives_all, workers_are_free, workers_end_alike};

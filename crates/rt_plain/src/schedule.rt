@@ -1,8 +1,14 @@
-ghost use Rattle.rt_plain.specs.Plain.{DueIsFree, PlainGivesAll, WorkersAreFree, WorkersEndAlike};
+ghost use Rattle.rt_plain.specs.Plain.{DueIsFree, PlainEnds, PlainGivesAll, WorkersAreFree, WorkersEndAlike};
 
 /// A run of a script in the plain schedule takes the inputs in their order, cuts no slot, and gives each slot all that is due to it.
 pub fn plain_gives_all()
     ensures { PlainGivesAll }
+{}
+
+/// A script in the plain schedule runs to its end exactly where each of its inputs finds room: the journal can take one more, and the rows that a poll
+/// leaves are within their limit.
+pub fn plain_ends()
+    ensures { PlainEnds }
 {}
 
 /// What is due depends on the settings by the secret and the size of a record alone.
