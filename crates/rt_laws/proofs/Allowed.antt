@@ -24,7 +24,7 @@ use Rattle.rt_entry.specs.declared.answer.Answer.{Answer}
 use Rattle.rt_entry.specs.declared.answer.Answer.TheVariants as a
 use Rattle.rt_entry.specs.declared.answer.Item.{Item}
 use Rattle.rt_entry.specs.declared.answer.Item.TheVariants as item
-use Rattle.rt_entry.specs.Story.{now_of, tables_left}
+use Rattle.rt_entry.specs.Story.{now_of, tables_left, ids_given}
 use Rattle.rt_entry.specs.Doings.{doings, story}
 use Rattle.rt_entry.specs.Answers.{Answers, answer_of, at_slot, told, spell, answers_by, answers, all_answers, due}
 use Rattle.rt_entry.specs.Machine.{Cut, Placed, placed_from, placed, opening_after, cut_of, shown_by, shown_at, shown, start, run}
@@ -138,7 +138,7 @@ fine_quiet (Tracks t) h slot m e = absurd h
 fine_quiet (Untracks k) h slot m e = absurd h
 fine_quiet (Departs k) h slot m e = absurd h
 
-fine_parts : (n : ℕ) (hs : List Member) (ps : List Part) → Shape true n hs ps → AllOf FinePart ps
+fine_parts : {ids : ℕ} (n : ℕ) (hs : List Member) (ps : List Part) → Shape true n ids hs ps → AllOf FinePart ps
 fine_parts n hs ps (plain h) = all_weaker (Plain true n) FinePart ps (fine_part n) h
 fine_parts n hs ps (joining front ch back f g k room e) =
     subst (AllOf FinePart) (sym e)
@@ -149,7 +149,7 @@ fine_parts n hs ps (tracking front t back f g k lt own e) =
     (all_append FinePart front (Tracks t ∷ back) (all_weaker (Quiet true) FinePart front fine_quiet f)
     ((λ slot m x. absurd (cc)), all_weaker (Quiet true) FinePart back fine_quiet g))
 
-fine_says : (n : ℕ) (hs : List Member) (ps : List Part) (slot : ℕ) (m : Message) → Shape true n hs ps
+fine_says : {ids : ℕ} (n : ℕ) (hs : List Member) (ps : List Part) (slot : ℕ) (m : Message) → Shape true n ids hs ps
     → Among (filter_map answer_of ps) (slot, a.Says m) → m.event ≡ codes "postgres_changes" → ⊥
 fine_says n hs ps slot m sh x e =
     let r = among_filter_map answer_of ps (slot, a.Says m) x in
@@ -161,7 +161,7 @@ module _ (c : Catalog) (s : Settings) where
   Polled before i slot m = (changes : List Change) × (i ≡ Poll changes) × IsDueBy c s before changes slot m
 
   polled : (before : List Input) (i : Input) (slot : ℕ) (m : Message) → Among (answers c s before i) (slot, a.Says m)
-      → Shape (fine_for i) (length (story c s before)) (members_in (story c s before))
+      → Shape (fine_for i) (length (story c s before)) (ids_given (story c s before)) (members_in (story c s before))
       (doings c s (now_of (story c s before)) (tables_left c (story c s before) i) i)
       → m.event ≡ codes "postgres_changes" → Polled before i slot m
   unfolding answers_by

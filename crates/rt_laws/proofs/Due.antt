@@ -35,7 +35,7 @@ use Rattle.rt_laws.proofs.Unique.{same_member}
 use Rattle.rt_laws.proofs.Columns.{all_from, shape_shows}
 use Rattle.rt_laws.proofs.Sent.{sent_verdict, verdict_when_sent}
 
-and_parts : (a b d : Bool) → (a && b && d) ≡ true → (a ≡ true) × (b ≡ true) × (d ≡ true)
+pub and_parts : (a b d : Bool) → (a && b && d) ≡ true → (a ≡ true) × (b ≡ true) × (d ≡ true)
 and_parts true true true e = (refl, refl, refl)
 and_parts true true false e = absurd (cc)
 and_parts true false d e = absurd (cc)
@@ -59,12 +59,12 @@ message_said d None = d
 message_said d (Some g) = said d g.1
 
 module _ (c : Catalog) (s : Settings) (st : Story) (h : Shaped st) (tables : List (List Row)) where
-  abbrev Gets : Change → ℕ → ℕ → Subscription → Type 0
+  abbrev pub Gets : Change → ℕ → ℕ → Subscription → Type 0
   Gets ch slot role sub = Among (subscriptions (members_in st)) sub × (sub.slot ≡ slot) × (is_of_table c ch.table sub ≡ true) × (sub.role ≡ role) ×
       (is_sent (verdict_of c (rows_of_table tables) sub ch) ≡ true)
 
   -- a subscription of the channel is the member's own
-  gets_own : (ch : Change) (m : Member) (sub : Subscription) → Among (members_in st) m → Among (subscriptions (members_in st)) sub
+  pub gets_own : (ch : Change) (m : Member) (sub : Subscription) → Among (members_in st) m → Among (subscriptions (members_in st)) sub
       → gets c s tables ch m.channel.number sub ≡ true → Gets ch m.channel.slot m.role sub
   unfolding subscriptions
   gets_own ch m sub here known e =

@@ -139,7 +139,7 @@ module _ (now : Now) (h : Member) (in_members : Among now.members h) (rises : Ri
         ∙ any_append (λ j. j == n) (departed_in (closing slot topic)) (departed_in rest)) ∙ stays) in
         absurd (let k : true ≡ false = sym gone ∙ kept in cc)
 
-  holds_result : (slot : ℕ) (gone : List ℕ) (m : Message) (r : Checked Channel) → IsMade now.number slot m.topic r
+  holds_result : (slot : ℕ) (gone : List ℕ) (m : Message) (r : Checked Channel) → IsMade now slot m.topic r
       → Holds (closing slot m.topic ++ join_result_parts now slot gone m r)
   holds_result slot gone m (Ok ch) made held stays mv =
       let ok = reply_ok ch.join_ref m (joined_response ch) in

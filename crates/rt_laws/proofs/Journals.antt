@@ -3,7 +3,7 @@ use Rattle.std.proofs.Common.{◌≡◌, List, [], ◌∷◌, length, refl, ap, 
 use Rattle.rt_catalog.specs.declared.catalog.Catalog.{Catalog}
 use Rattle.rt_entry.specs.declared.input.Input.{Input}
 use Rattle.rt_entry.specs.declared.input.Settings.{Settings}
-use Rattle.rt_entry.specs.Story.{Line, Story, now_of, edits_at, tables_of, tables_left}
+use Rattle.rt_entry.specs.Story.{Line, Story, ids_given, now_of, edits_at, tables_of, tables_left}
 use Rattle.rt_entry.specs.Doings.{doings, story}
 use Rattle.rt_laws.specs.After.{after}
 use Rattle.rt_laws.proofs.Shapes.{Shape, fine_for, shape_doings}
@@ -15,7 +15,7 @@ module _ (c : Catalog) (s : Settings) where
   line_of journal i = record { input = i; parts = doings c s (now_of (story c s journal)) (tables_left c (story c s journal) i) i }
 
   pub shape_next : (st : Story) (i : Input) → Shaped st
-      → Shape (fine_for i) (length st) (members_in st) (doings c s (now_of st) (tables_left c st i) i)
+      → Shape (fine_for i) (length st) (ids_given st) (members_in st) (doings c s (now_of st) (tables_left c st i) i)
   unfolding now_of
   shape_next st i h = shape_doings (now_of st) (held_below st h) (members_apart st h) c s (tables_left c st i) i
 

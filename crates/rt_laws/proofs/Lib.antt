@@ -1,6 +1,7 @@
 mod Accepting
 mod Agree
 mod Allowed
+mod Audited
 mod Clients
 mod Columns
 mod Doing
@@ -14,6 +15,7 @@ pub mod Good
 pub mod Grows
 mod Hears
 mod Holding
+mod Ids
 mod Incoming
 pub mod Journals
 pub mod Lists

@@ -88,13 +88,17 @@ pub record IsOfMember (n : ℕ) (members : List Member) (t : Track) : Type 0 whe
 abbrev pub AreApart : List Member → Type 0
 AreApart members = (g h : Member) → Among members g → Among members h → g.channel.slot ≡ h.channel.slot → g.channel.topic ≡ h.channel.topic → g ≡ h
 
-pub data Shape (b : Bool) (n : ℕ) (members : List Member) (ps : List Part) : Type 0 where
-  plain : AllOf (Plain b n) ps → Shape b n members ps
-  joining : (front : List Part) (ch : Channel) (back : List Part) → AllOf (Plain b n) front → AllOf (Plain b n) back → ch.number ≡ n
-      → MakesRoom members ch front → ps ≡ front ++ Joins ch ∷ back → Shape b n members ps
+-- the channel has the input's number, and its ids follow those that were given
+abbrev pub IsNext : ℕ → ℕ → Channel → Type 0
+IsNext n ids ch = (ch.number ≡ n) × (ch.first_id ≡ ids + 1)
+
+pub data Shape (b : Bool) (n ids : ℕ) (members : List Member) (ps : List Part) : Type 0 where
+  plain : AllOf (Plain b n) ps → Shape b n ids members ps
+  joining : (front : List Part) (ch : Channel) (back : List Part) → AllOf (Plain b n) front → AllOf (Plain b n) back → IsNext n ids ch
+      → MakesRoom members ch front → ps ≡ front ++ Joins ch ∷ back → Shape b n ids members ps
   tracking : (front : List Part) (t : Track) (back : List Part) → AllOf (Quiet b) front → AllOf (Quiet b) back
       → list_any (λ (h : Member). h.channel.number == t.channel) members ≡ true → t.channel < n
-      → IsOfMember n members t → ps ≡ front ++ Tracks t ∷ back → Shape b n members ps
+      → IsOfMember n members t → ps ≡ front ++ Tracks t ∷ back → Shape b n ids members ps
 
 pub eqb_same : (n : ℕ) → (n == n) ≡ true
 eqb_same n = elim (eqb_tells n n) [ inl t ↦ t.0 | inr t ↦ absurd (t.1 refl) ]
@@ -172,15 +176,15 @@ plain_broadcast n now ch m =
     all_append (Plain true n) (tell_if ch.ack ch.slot (reply_ok ch.join_ref m no_members)) (map (broadcast_part m) to)
     (plain_tell_if n ch.ack ch.slot (reply_ok ch.join_ref m no_members) refl) (all_map (Plain true n) (broadcast_part m) to (λ h. refl))
 
--- the number of a channel that a join makes
-abbrev pub IsMade : ℕ → ℕ → List ℕ → Checked Channel → Type 0
-IsMade n slot topic (Ok ch) = (ch.number ≡ n) × (ch.slot ≡ slot) × (ch.topic ≡ topic)
-IsMade n slot topic (Err why) = ⊤
+-- the number, the slot, the topic and the ids of a channel that a join makes
+abbrev pub IsMade : Now → ℕ → List ℕ → Checked Channel → Type 0
+IsMade now slot topic (Ok ch) = (ch.number ≡ now.number) × (ch.slot ≡ slot) × (ch.topic ≡ topic) × (ch.first_id ≡ now.ids + 1)
+IsMade now slot topic (Err why) = ⊤
 
-made_by : {A : Type 0} (n slot : ℕ) (topic : List ℕ) (r : Checked A) (f : A → Checked Channel) → ((x : A) → IsMade n slot topic (f x))
-    → IsMade n slot topic (r >> f)
-made_by n slot topic (Ok x) f h = h x
-made_by n slot topic (Err why) f h = tt
+made_by : {A : Type 0} (now : Now) (slot : ℕ) (topic : List ℕ) (r : Checked A) (f : A → Checked Channel) → ((x : A) → IsMade now slot topic (f x))
+    → IsMade now slot topic (r >> f)
+made_by now slot topic (Ok x) f h = h x
+made_by now slot topic (Err why) f h = tt
 
 module _ (now : Now) (a : AllOf (Below now.number) now.members) (apart : AreApart now.members) where
   channels_below : (slot : ℕ) → AllOf (Below now.number) (channels_of now slot)
@@ -229,7 +233,7 @@ module _ (now : Now) (a : AllOf (Below now.number) now.members) (apart : AreApar
       (all_map_of (Plain true now.number) (Below now.number) departs_of (channels_of now slot) (λ h b. b) (channels_below slot)) (tt, tt)
 
   abbrev Shaped : List Part → Type 0
-  Shaped ps = Shape true now.number now.members ps
+  Shaped ps = Shape true now.number now.ids now.members ps
 
   by_test : (t : Bool) (x y : List Part) → Shaped x → Shaped y → Shaped (if t then x else y)
   by_test true x y f g = f
@@ -270,7 +274,7 @@ module _ (now : Now) (a : AllOf (Below now.number) now.members) (apart : AreApar
       ∙ or_left (h.channel.number == h.channel.number) _ (eqb_same h.channel.number)
 
   shape_result : (slot : ℕ) (gone : List ℕ) (m : Message) (front : List Part) (r : Checked Channel) → AllOf (Plain true now.number) front
-      → IsMade now.number slot m.topic r
+      → IsMade now slot m.topic r
       → ((h : Member) → Among now.members h → h.channel.slot ≡ slot → h.channel.topic ≡ m.topic → has h.channel.number (departed_in front) ≡ true)
       → Shaped (front ++ join_result_parts now slot gone m r)
   shape_result slot gone m front (Ok ch) f n room =
@@ -282,12 +286,12 @@ module _ (now : Now) (a : AllOf (Below now.number) now.members) (apart : AreApar
         all_append (Plain true now.number) subscribed state (plain_tell_if now.number (has_bindings ch) ch.slot (subscribed_message ch) refl)
             (plain_tell_if now.number ch.presence ch.slot (presence_state ch (present_on now gone ch.topic)) refl),
       )
-      n.0 (λ h i e t. room h i (e ∙ n.1) (t ∙ n.2)) refl
+      (n.0, n.3) (λ h i e t. room h i (e ∙ n.1) (t ∙ n.2)) refl
   shape_result slot gone m front (Err why) f n room =
       plain (all_append (Plain true now.number) front (tell slot (reply_error m.join_ref m why)) f (refl, tt))
 
   module _ (c : Catalog) (s : Settings) where
-    pub join_made : (slot : ℕ) (o : Opening) (others : ℕ) (m : Message) → IsMade now.number slot m.topic (channel_of_join c s now slot o others m)
+    pub join_made : (slot : ℕ) (o : Opening) (others : ℕ) (m : Message) → IsMade now slot m.topic (channel_of_join c s now slot o others m)
     unfolding channel_of_join
     join_made slot o others m =
         let made : Config → Claims → ℕ → List Subscribed → Checked Channel = λ config claims role bindings. Ok (record {
@@ -311,15 +315,15 @@ module _ (now : Now) (a : AllOf (Below now.number) now.members) (apart : AreApar
         let with_config : Config → Checked Channel = λ config.
         demand (not config.private) (codes "private channel") >> λ _. asked_claims s now o
         (member_of m.payload (codes "access_token")) >> with_claims config in
-        made_by now.number slot m.topic (or_why (codes "bad config") (config_of m.payload)) with_config (λ config.
-        made_by now.number slot m.topic (demand (not config.private) (codes "private channel"))
+        made_by now slot m.topic (or_why (codes "bad config") (config_of m.payload)) with_config (λ config.
+        made_by now slot m.topic (demand (not config.private) (codes "private channel"))
         (λ _. asked_claims s now o (member_of m.payload (codes "access_token")) >> with_claims config) (λ x.
-        made_by now.number slot m.topic (asked_claims s now o (member_of m.payload (codes "access_token"))) (with_claims config) (λ claims.
-        made_by now.number slot m.topic (told_by registry_text (role_for c claims)) (with_role config claims) (λ role.
-        made_by now.number slot m.topic (demand (nat_lt others channel_limit) (codes "too many channels"))
+        made_by now slot m.topic (asked_claims s now o (member_of m.payload (codes "access_token"))) (with_claims config) (λ claims.
+        made_by now slot m.topic (told_by registry_text (role_for c claims)) (with_role config claims) (λ role.
+        made_by now slot m.topic (demand (nat_lt others channel_limit) (codes "too many channels"))
         (λ _. told_by registry_text (bindings_for c claims (map binding_of config.bindings)) >> made config claims role) (λ y.
-        made_by now.number slot m.topic (told_by registry_text (bindings_for c claims (map binding_of config.bindings))) (made config claims role)
-        (λ bindings. (refl, refl, refl)))))))
+        made_by now slot m.topic (told_by registry_text (bindings_for c claims (map binding_of config.bindings))) (made config claims role)
+        (λ bindings. (refl, refl, refl, refl)))))))
 
     shape_join : (slot : ℕ) (o : Opening) (m : Message) → Shaped (join_parts c s now slot o m)
     shape_join slot o m =
@@ -383,7 +387,7 @@ module _ (now : Now) (a : AllOf (Below now.number) now.members) (apart : AreApar
               (λ to. plain_change to ch (filter (gets c s tables ch to.channel) subs))
         ]
 
-    pub shape_doings : (tables : List (List Row)) (i : Input) → Shape (fine_for i) now.number now.members (doings c s now tables i)
+    pub shape_doings : (tables : List (List Row)) (i : Input) → Shape (fine_for i) now.number now.ids now.members (doings c s now tables i)
     unfolding doings poll_parts
     shape_doings tables (Opened slot version claims) = plain (plain_open slot (opening_of now version claims))
     shape_doings tables (Frame slot bytes) = shape_frame slot bytes (opening_in now slot)

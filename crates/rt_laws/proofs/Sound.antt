@@ -1,5 +1,5 @@
 -- Every line of a journal's story is sound.
-use Rattle.std.proofs.Common.{◌≡◌, ◌⊎◌, ℕ, ◌<◌, ◌≤◌, Bool, true, false, ◌||◌, ◌&&◌, not, cond, List, [], ◌∷◌, ◌++◌, map, length, Option, Some, None, refl, sym, ap, subst, ◌∙◌, append-nil, arith, inl, inr, eqb}
+use Rattle.std.proofs.Common.{◌≡◌, ◌⊎◌, ℕ, ◌+◌, ◌<◌, ◌≤◌, Bool, true, false, ◌||◌, ◌&&◌, not, cond, List, [], ◌∷◌, ◌++◌, map, length, Option, Some, None, refl, sym, ap, subst, ◌∙◌, append-nil, arith, inl, inr, eqb}
 use Rattle.std.specs.Prelude.{⊤, ◌==◌}
 use Rattle.std.specs.List.{filter, filter_map, flat_map, list_any}
 use Rattle.std.proofs.lemmas.Bool.Decides.{nat_tests, eqb_tells}
@@ -12,9 +12,9 @@ use Rattle.rt_entry.specs.declared.story.Member.{Member}
 use Rattle.rt_entry.specs.declared.story.Track.{Track}
 use Rattle.rt_entry.specs.declared.story.Part.{Part}
 use Rattle.rt_entry.specs.declared.story.Part.TheVariants.{Opens, Ends, Tells, Joins, Renews, Tracks, Untracks, Departs}
-use Rattle.rt_entry.specs.Story.{Line, Story, joined, joined_by, departed, departed_by, departed_in, renewed_by, first_or, has, members_at, member_in, claims_at, standing_of, tracked_by, all_tracks, is_last, standing_tracks}
+use Rattle.rt_entry.specs.Story.{Line, Story, joined, joined_by, departed, departed_by, departed_in, renewed_by, first_or, has, members_at, member_in, claims_at, ids_given, standing_of, tracked_by, all_tracks, is_last, standing_tracks}
 use Rattle.rt_laws.specs.After.{joins_of, new_member, with_standing, tracks_in}
-use Rattle.rt_laws.proofs.Shapes.{Plain, Quiet, Below, Shape, plain, joining, tracking, MakesRoom, AreApart, IsOfMember, fine_for}
+use Rattle.rt_laws.proofs.Shapes.{Plain, Quiet, Below, IsNext, Shape, plain, joining, tracking, MakesRoom, AreApart, IsOfMember, fine_for}
 use Rattle.rt_laws.proofs.Grows.{Tagged, is_held, IsSound, remains_by, joined_grows, members_grow}
 
 -- what plain parts leave
@@ -115,14 +115,14 @@ around_renews b n m front p back le f g e =
     filter_map-append (renewed_by m) front (p ∷ back) ∙ ap (λ xs. xs ++ filter_map (renewed_by m) (p ∷ back)) (plain_renews b n m front le f) ∙ e
     ∙ plain_renews b n m back le g
 
-shape_has : (b : Bool) (n m : ℕ) (hs : List Member) (ps : List Part) → n ≤ m → Shape b n hs ps → has m (departed_in ps) ≡ false
+shape_has : {ids : ℕ} (b : Bool) (n m : ℕ) (hs : List Member) (ps : List Part) → n ≤ m → Shape b n ids hs ps → has m (departed_in ps) ≡ false
 shape_has b n m hs ps le (plain h) = plain_has b n m ps le h
 shape_has b n m hs ps le (joining front ch back f g k room e) =
     ap (λ qs. has m (departed_in qs)) e ∙ around_has b n m front (Joins ch) back le f g refl
 shape_has b n m hs ps le (tracking front t back f g k lt own e) =
     ap (λ qs. has m (departed_in qs)) e ∙ around_has b n m front (Tracks t) back le (quiet_front b n front f) (quiet_front b n back g) refl
 
-shape_renews : (b : Bool) (n m : ℕ) (hs : List Member) (ps : List Part) → n ≤ m → Shape b n hs ps → filter_map (renewed_by m) ps ≡ []
+shape_renews : {ids : ℕ} (b : Bool) (n m : ℕ) (hs : List Member) (ps : List Part) → n ≤ m → Shape b n ids hs ps → filter_map (renewed_by m) ps ≡ []
 shape_renews b n m hs ps le (plain h) = plain_renews b n m ps le h
 shape_renews b n m hs ps le (joining front ch back f g k room e) =
     ap (filter_map (renewed_by m)) e ∙ around_renews b n m front (Joins ch) back le f g refl
@@ -135,15 +135,15 @@ around_joins b n front p back f g =
     filter_map-append joined_by front (p ∷ back) ∙ ap (λ xs. xs ++ joins_of (p ∷ back)) (plain_joins b n front f)
     ∙ filter_map-append joined_by (p ∷ []) back ∙ ap (λ xs. joins_of (p ∷ []) ++ xs) (plain_joins b n back g) ∙ append-nil (joins_of (p ∷ []))
 
-shape_joins : (b : Bool) (n : ℕ) (hs : List Member) (ps : List Part) → Shape b n hs ps
-    → (joins_of ps ≡ []) ⊎ ((ch : Channel) × (joins_of ps ≡ ch ∷ []) × (ch.number ≡ n))
+shape_joins : {ids : ℕ} (b : Bool) (n : ℕ) (hs : List Member) (ps : List Part) → Shape b n ids hs ps
+    → (joins_of ps ≡ []) ⊎ ((ch : Channel) × (joins_of ps ≡ ch ∷ []) × IsNext n ids ch)
 shape_joins b n hs ps (plain h) = inl (plain_joins b n ps h)
 shape_joins b n hs ps (joining front ch back f g k room e) = inr (ch, ap joins_of e ∙ around_joins b n front (Joins ch) back f g, k)
 shape_joins b n hs ps (tracking front t back f g k lt own e) =
     inl (ap joins_of e ∙ around_joins b n front (Tracks t) back (quiet_front b n front f) (quiet_front b n back g))
 
 -- either nothing new stands, or one track of a member, and nobody departs or joins
-pub shape_tracks : (b : Bool) (n : ℕ) (hs : List Member) (ps : List Part) → Shape b n hs ps
+pub shape_tracks : {ids : ℕ} (b : Bool) (n : ℕ) (hs : List Member) (ps : List Part) → Shape b n ids hs ps
     → (standing_tracks (tracks_in ps) ≡ [])
     ⊎ ((t : Track) × (tracks_in ps ≡ (t.channel, Some t) ∷ []) × (departed_in ps ≡ []) × (list_any (λ (h : Member). h.channel.number == t.channel) hs ≡ true) × (t.channel < n) × IsOfMember n hs t)
 shape_tracks b n hs ps (plain h) = inl (ap (λ qs. standing_tracks (tracks_in qs)) (sym (append-nil ps)) ∙ plain_tracks b n ps [] h)
@@ -167,7 +167,7 @@ members_in st = map (member_in st) (members_at st)
 
 abbrev pub Shaped : Story → Type 0
 Shaped [] = ⊤
-Shaped (l ∷ before) = Shape (fine_for l.input) (length before) (members_in before) l.parts × Shaped before
+Shaped (l ∷ before) = Shape (fine_for l.input) (length before) (ids_given before) (members_in before) l.parts × Shaped before
 
 shaped_has : (st : Story) (m : ℕ) → length st ≤ m → Shaped st → has m (departed st) ≡ false
 unfolding departed
@@ -208,20 +208,22 @@ pub record JoinsWell (l : Line) (before : Story) (js : List Channel) : Type 0 wh
   pub stays : filter (λ (ch : Channel). not (has ch.number (departed (l ∷ before)))) js ≡ js
   pub claims : map (member_in (l ∷ before)) js ≡ map new_member js
   pub numbers : AllOf (λ (ch : Channel). ch.number ≡ length before) js
+  pub ids : AllOf (λ (ch : Channel). ch.first_id ≡ ids_given before + 1) js
 
 pub joins_well : (l : Line) (before : Story) → Shaped (l ∷ before) → JoinsWell l before (joins_of l.parts)
 joins_well l before h =
     let P : List Channel → Type 0 = λ js. JoinsWell l before js in
     elim (shape_joins (fine_for l.input) (length before) (members_in before) l.parts h.0) [
-      | inl e ↦ subst P (sym e) (record { one = inl refl; stays = refl; claims = refl; numbers = tt })
+      | inl e ↦ subst P (sym e) (record { one = inl refl; stays = refl; claims = refl; numbers = tt; ids = tt })
       | inr j ↦
-          let k = j.2 in
+          let k = j.2.0 in
           let le : length before ≤ j.0.number = omega arith in
           let here : JoinsWell l before (j.0 ∷ []) = record {
             one = inr refl;
             stays = ap (λ (t : Bool). cond (not t) (j.0 ∷ []) []) (has_line l before j.0.number le h);
             claims = ap (λ st. with_standing j.0 st ∷ []) (claims_line l before j.0 le h);
             numbers = (k, tt);
+            ids = (j.2.1, tt);
           } in
           subst P (sym j.1) here
     ]
@@ -301,7 +303,7 @@ plain_track_below b n m (Tracks t ∷ ps) qs h g = absurd h.0
 plain_track_below b n m (Untracks k ∷ ps) qs h g = (tt, plain_track_below b n m ps qs h.1 g)
 plain_track_below b n m (Departs k ∷ ps) qs h g = plain_track_below b n m ps qs h.1 g
 
-shape_track_below : (b : Bool) (n m : ℕ) (hs : List Member) (ps : List Part) → n ≤ m → Shape b n hs ps → AllOf (TrackBelow m) (tracks_in ps)
+shape_track_below : {ids : ℕ} (b : Bool) (n m : ℕ) (hs : List Member) (ps : List Part) → n ≤ m → Shape b n ids hs ps → AllOf (TrackBelow m) (tracks_in ps)
 shape_track_below b n m hs ps le (plain h) =
     let P : List Part → Type 0 = λ qs. AllOf (TrackBelow m) (tracks_in qs) in subst P (append-nil ps) (plain_track_below b n m ps [] h tt)
 shape_track_below b n m hs ps le (joining front ch back f g k room e) =
@@ -424,7 +426,7 @@ shape_sound l before h =
     }
 
 -- whoever joins finds room
-shape_room : (b : Bool) (n : ℕ) (hs : List Member) (ps : List Part) → Shape b n hs ps → AllOf (λ (ch : Channel). MakesRoom hs ch ps) (joins_of ps)
+shape_room : {ids : ℕ} (b : Bool) (n : ℕ) (hs : List Member) (ps : List Part) → Shape b n ids hs ps → AllOf (λ (ch : Channel). MakesRoom hs ch ps) (joins_of ps)
 shape_room b n hs ps (plain h) = let P : List Channel → Type 0 = AllOf (λ (ch : Channel). MakesRoom hs ch ps) in subst P (sym (plain_joins b n ps h)) tt
 shape_room b n hs ps (joining front ch back f g k room e) =
     let P : List Channel → Type 0 = AllOf (λ (x : Channel). MakesRoom hs x ps) in

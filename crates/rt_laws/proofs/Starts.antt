@@ -183,7 +183,7 @@ module _ (now : Now) where
   by_test true x y f g = f
   by_test false x y f g = g
 
-  keeping_result : (slot : ℕ) (o : Option Member) (m : Message) (r : Checked Channel) → IsMade now.number slot m.topic r → IsOpen now slot
+  keeping_result : (slot : ℕ) (o : Option Member) (m : Message) (r : Checked Channel) → IsMade now slot m.topic r → IsOpen now slot
       → Keeping (closing o ++ join_result_parts now slot (map (λ (g : Member). g.channel.number) (option_to_list o)) m r)
   keeping_result slot o m (Err why) made held_open =
       keeping_still (closing o ++ tell slot (reply_error m.join_ref m why))

@@ -1,8 +1,10 @@
 pub mod After
+pub mod Audited
 pub mod Changes
 pub mod Departures
 pub mod Fan
 pub mod Follows
+pub mod Ids
 pub mod Members
 pub mod Served
 pub mod Told

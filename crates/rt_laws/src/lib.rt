@@ -8,7 +8,7 @@ mod serving;
 mod steps;
 mod stories;
 
-pub use access::{changes_are_allowed, given_is_allowed, verdicts_are_one};
+pub use access::{audit_decides, changes_are_allowed, given_is_allowed, verdicts_are_one};
 pub use lanes::{entries_give, lanes_fan_out, marks_stay};
 pub use presence::{
     answers_are_readable, clients_agree, clients_follow, departures_are_told, given_clients_agree,
@@ -16,4 +16,4 @@ pub use presence::{
 };
 pub use serving::{serves_all, uncut_is_due};
 pub use steps::{cuts_are_own, others_are_untouched, push_keeps_the_rest};
-pub use stories::{members_are_apart, slots_are_open, story_grows, tracks_are_apart};
+pub use stories::{ids_rise, members_are_apart, slots_are_open, story_grows, tracks_are_apart};

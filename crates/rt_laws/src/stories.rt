@@ -1,6 +1,8 @@
 ghost use Rattle.rt_catalog.specs.declared.catalog.Catalog.{Catalog as CatalogData};
 ghost use Rattle.rt_entry.specs.declared.input.Settings.{Settings as SettingsData};
 ghost use Rattle.rt_laws.specs.After.{StoryGrows, TablesGrow};
+ghost use Rattle.rt_laws.specs.Audited.{ToldIdsRise};
+ghost use Rattle.rt_laws.specs.Ids.{IdsRise};
 ghost use Rattle.rt_laws.specs.Members.{NumbersAreApart, SlotsAreOpen, TopicsAreApart};
 ghost use Rattle.rt_laws.specs.Tracks.{ChannelsTrackOnce, ReferencesAreApart, TracksAreMembers};
 
@@ -27,4 +29,11 @@ pub fn tracks_are_apart()
 /// The slot of each member is open.
 pub fn slots_are_open()
     ensures { (c : CatalogData) (s : SettingsData) → SlotsAreOpen c s }
+{}
+
+/// The subscriptions that stand are in the order of their ids, from 1 on, each under an id of its own that was given; and so are the ids with which a
+/// channel is told of a change.
+pub fn ids_rise()
+    ensures standing { (c : CatalogData) (s : SettingsData) → IdsRise c s }
+    ensures told { (c : CatalogData) (s : SettingsData) → ToldIdsRise c s }
 {}

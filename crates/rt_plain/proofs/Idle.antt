@@ -1,5 +1,5 @@
 -- Where a round does nothing, every worker is at rest.
-use Rattle.std.proofs.Common.{◌≡◌, ◌⊎◌, ℕ, zero, suc, ◌+◌, ◌-◌, ◌<◌, ◌≤◌, Bool, true, false, ◌||◌, not, List, [], ◌∷◌, ◌++◌, length, map, refl, sym, ap, subst, ◌∙◌, arith, inl, inr}
+use Rattle.std.proofs.Common.{◌≡◌, ◌⊎◌, ℕ, zero, suc, ◌+◌, ◌-◌, ◌<◌, ◌≤◌, Bool, true, false, ◌||◌, not, List, [], ◌∷◌, ◌++◌, length, map, refl, ap, subst, ◌∙◌, arith, inl, inr}
 use Rattle.std.specs.Prelude.{⊤, ◌==◌}
 use Rattle.std.specs.List.{flat_map, list_any, range_with_len}
 use Rattle.std.proofs.lemmas.Bool.Decides.{eqb_tells}
@@ -15,6 +15,7 @@ use Rattle.rt_entry.specs.Story.{every_slot, slot_count}
 use Rattle.rt_entry.specs.Answers.{lane_marks, due}
 use Rattle.rt_entry.specs.Machine.{Lane, World, Placed, Outcome, done, empty, full, with_slot, with_lane, with_given, with_cut, outbox, pending, send, work, is_full_for, push, pop, step_of, run, shown, lane_of, IsAtRest}
 use Rattle.rt_script.specs.Running.{is_done, every_lane, round, outcomes, does_nothing}
+use Rattle.rt_laws.proofs.Lists.{flat_among}
 use Rattle.rt_laws.proofs.Given.{shown_uncut}
 use Rattle.rt_laws.proofs.Good.{IsGood, good_serves}
 use Rattle.rt_plain.proofs.Calm.{CalmWorld, by_test, pair_of, same_number, has_room}
@@ -26,11 +27,6 @@ or_parts false b e = (refl, e)
 false_of : (b : Bool) → not b ≡ true → b ≡ false
 false_of true e = absurd (cc)
 false_of false e = refl
-
-flat_among : {A B : Type 0} (f : A → List B) (xs : List A) (x : A) (y : B) → Among xs x → Among (f x) y → Among (flat_map f xs) y
-flat_among f [] x y h k = absurd h
-flat_among {A} {B} f (z ∷ xs) x y (inl e) k = let P : A → Type 0 = λ v. Among (f v) y in among_left (f z) (flat_map f xs) y (subst P (sym e) k)
-flat_among f (z ∷ xs) x y (inr h) k = among_right (f z) (flat_map f xs) y (flat_among f xs x y h k)
 
 range_among : (k n l : ℕ) → k ≤ l → l < k + n → Among (range_with_len k n) l
 range_among k zero l a b = absurd (omega arith)
