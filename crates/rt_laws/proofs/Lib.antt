@@ -24,6 +24,7 @@ mod Metas
 mod Moments
 mod Once
 mod Opens
+mod Openings
 mod Outgoing
 mod Present
 mod Read
@@ -38,7 +39,9 @@ pub mod Stepping
 mod Telling
 pub mod Texts
 mod Tracked
+mod Turning
 mod Turns
 mod Unique
 pub mod Untouched
+mod Whole
 mod Within

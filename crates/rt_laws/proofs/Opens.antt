@@ -164,7 +164,7 @@ module _ (now : Now) where
       has_append n (depart now gone g) (in_turn (depart now) next gs) ∙ or_right (has n (departed_in (depart now gone g))) _ (turn_has next gs h i)
 
   -- the channels of a slot that ends depart
-  end_has : (gone : List ℕ) (slot : ℕ) (name : EndName) (h : Member) → Among now.members h → h.channel.slot ≡ slot
+  pub end_has : (gone : List ℕ) (slot : ℕ) (name : EndName) (h : Member) → Among now.members h → h.channel.slot ≡ slot
       → has h.channel.number (departed_in (end_of now gone slot name)) ≡ true
   end_has gone slot name h here e =
       let ds = in_turn (depart now) gone (channels_of now slot) in

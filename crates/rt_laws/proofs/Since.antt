@@ -102,7 +102,7 @@ last_said v (item.Message bytes ∷ xs) ms =
 
 -- what parts that leave a slot alone tell it are messages
 
-abbrev told_by : ℕ → List Part → List Answer
+abbrev pub told_by : ℕ → List Part → List Answer
 told_by slot ps = filter_map (at_slot slot) (filter_map answer_of ps)
 
 said_case : (b : Bool) (x : Answer) (rest : List Answer) (ms : List Message) → b ≡ false → rest ≡ as_said (filter_map said_by rest)
@@ -183,11 +183,11 @@ fits_heard i moment slot v (Some p) f o e =
     let same : heard_in i moment slot p ≡ o = cc in f p refl ∙ sym (heard_version i moment slot p) ∙ ap (λ (x : Opening). x.version) same
 
 module _ (c : Catalog) (s : Settings) where
-  told_parts : (journal : List Input) (i : Input) (slot : ℕ) → told slot (answers c s journal i) ≡ told_by slot (done_by c s journal i)
+  pub told_parts : (journal : List Input) (i : Input) (slot : ℕ) → told slot (answers c s journal i) ≡ told_by slot (done_by c s journal i)
   unfolding told answers_by
   told_parts journal i slot = refl
 
-  told_more : (journal : List Input) (i : Input) (slot : ℕ)
+  pub told_more : (journal : List Input) (i : Input) (slot : ℕ)
       → told slot (all_answers c s (i ∷ journal)) ≡ told slot (all_answers c s journal) ++ told slot (answers c s journal i)
   told_more journal i slot = ap (told slot) (answers_more c s journal i) ∙ told_append slot (all_answers c s journal) (answers c s journal i)
 

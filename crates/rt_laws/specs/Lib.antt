@@ -6,6 +6,7 @@ pub mod Fan
 pub mod Follows
 pub mod Ids
 pub mod Members
+pub mod Openings
 pub mod Served
 pub mod Told
 pub mod Tracks

@@ -16,4 +16,6 @@ pub use presence::{
 };
 pub use serving::{serves_all, uncut_is_due};
 pub use steps::{cuts_are_own, others_are_untouched, push_keeps_the_rest};
-pub use stories::{ids_rise, members_are_apart, slots_are_open, story_grows, tracks_are_apart};
+pub use stories::{
+    ids_rise, members_are_apart, openings_are_whole, slots_are_open, story_grows, tracks_are_apart,
+};

@@ -4,6 +4,7 @@ ghost use Rattle.rt_laws.specs.After.{StoryGrows, TablesGrow};
 ghost use Rattle.rt_laws.specs.Audited.{ToldIdsRise};
 ghost use Rattle.rt_laws.specs.Ids.{IdsRise};
 ghost use Rattle.rt_laws.specs.Members.{NumbersAreApart, SlotsAreOpen, TopicsAreApart};
+ghost use Rattle.rt_laws.specs.Openings.{OpeningsAreWhole};
 ghost use Rattle.rt_laws.specs.Tracks.{ChannelsTrackOnce, ReferencesAreApart, TracksAreMembers};
 
 /// What an input finds comes from what the input before it found and did: openings, members with their claims, tracks and ids; and the tables that it
@@ -36,4 +37,10 @@ pub fn slots_are_open()
 pub fn ids_rise()
     ensures standing { (c : CatalogData) (s : SettingsData) → IdsRise c s }
     ensures told { (c : CatalogData) (s : SettingsData) → ToldIdsRise c s }
+{}
+
+/// What a slot is told goes opening by opening: each begins with its mark and ends with its terminator, and nothing is said between them. What is left open
+/// is what the story has open.
+pub fn openings_are_whole()
+    ensures { (c : CatalogData) (s : SettingsData) → OpeningsAreWhole c s }
 {}
