@@ -32,6 +32,7 @@ mod Recorded
 mod Sent
 pub mod Shapes
 mod Shaping
+mod Shut
 mod Since
 pub mod Sound
 mod Starts

@@ -38,10 +38,10 @@ no_say now slot b n ne e = absurd (let k : false ≡ true = sym ne ∙ e in cc)
 
 module _ (now : Now) (slot : ℕ) where
   -- a slot's opening among those from some slot on
-  abbrev Holds : Bool → ℕ → List (Option Opening) → Type 0
+  abbrev pub Holds : Bool → ℕ → List (Option Opening) → Type 0
   Holds b from os = (n : ℕ) (o : Option Opening) → from + n ≡ slot → slice_get os n ≡ Some o → is_there o ≡ b
 
-  holds_more : (b : Bool) (from : ℕ) (o : Option Opening) (os : List (Option Opening)) → Holds b from (o ∷ os) → Holds b (from + 1) os
+  pub holds_more : (b : Bool) (from : ℕ) (o : Option Opening) (os : List (Option Opening)) → Holds b from (o ∷ os) → Holds b (from + 1) os
   holds_more b from o os h n p e f = let at : from + suc n ≡ slot = omega arith in h (suc n) p at f
 
   -- ticks
@@ -133,15 +133,15 @@ module _ (now : Now) (slot : ℕ) where
 
   -- a stop
 
-  mild_leavers : (b : Bool) (hs : List Member) → AllOf (Mild slot b) (map departs_of hs)
+  pub mild_leavers : (b : Bool) (hs : List Member) → AllOf (Mild slot b) (map departs_of hs)
   mild_leavers b hs = all_map (Mild slot b) departs_of hs (λ h. tt)
 
-  stop_other : (b : Bool) (n : ℕ) (o : Option Opening) → (n == slot) ≡ false → AllOf (Mild slot b) (stop_parts now (n, o))
+  pub stop_other : (b : Bool) (n : ℕ) (o : Option Opening) → (n == slot) ≡ false → AllOf (Mild slot b) (stop_parts now (n, o))
   stop_other b n None ne = tt
   stop_other b n (Some o) ne =
       all_append (Mild slot b) (map departs_of (channels_of now n)) (Ends n end_name.Stopped ∷ []) (mild_leavers b (channels_of now n)) (ne, tt)
 
-  stops_behind : (b : Bool) (from : ℕ) (os : List (Option Opening)) → slot < from
+  pub stops_behind : (b : Bool) (from : ℕ) (os : List (Option Opening)) → slot < from
       → AllOf (Mild slot b) (flat_map (stop_parts now) (enumerate_from from os))
   stops_behind b from [] lt = tt
   stops_behind b from (o ∷ os) lt =
@@ -213,16 +213,16 @@ slot_in f from zero k lt = absurd (omega arith)
 slot_in f from (suc n) zero lt = let e : from ≡ from + 0 = omega arith in ap (λ j. Some (f j)) e
 slot_in f from (suc n) (suc k) lt = let e : (from + 1) + k ≡ from + suc k = omega arith in slot_in f (from + 1) n k (omega arith) ∙ ap (λ j. Some (f j)) e
 
-opens_at : (st : Story) (slot : ℕ) → slot < slot_count → opening_in (now_of st) slot ≡ opening_at st slot
+pub opens_at : (st : Story) (slot : ℕ) → slot < slot_count → opening_in (now_of st) slot ≡ opening_at st slot
 unfolding now_of every_slot
 opens_at st slot lt = ap or_none (slot_in (opening_at st) 0 256 slot lt) ∙ (let e : 0 + slot ≡ slot = omega arith in ap (opening_at st) e)
 
-there_heard : (i : Input) (moment slot : ℕ) (o : Option Opening) → is_there (option_map (heard_in i moment slot) o) ≡ is_there o
+pub there_heard : (i : Input) (moment slot : ℕ) (o : Option Opening) → is_there (option_map (heard_in i moment slot) o) ≡ is_there o
 there_heard i moment slot None = refl
 there_heard i moment slot (Some o) = refl
 
 module _ (c : Catalog) (s : Settings) where
-  open_where : (journal : List Input) (slot : ℕ) → slot < slot_count → Remains (now_of (story c s journal)) slot (is_there (opening_at (story c s journal) slot)) []
+  pub open_where : (journal : List Input) (slot : ℕ) → slot < slot_count → Remains (now_of (story c s journal)) slot (is_there (opening_at (story c s journal) slot)) []
   open_where journal slot lt h here is stays =
       let st = story c s journal in
       let open_slot = slots_open c s journal h (to_contains (now_of st).members h here) in

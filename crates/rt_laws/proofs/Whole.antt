@@ -174,7 +174,7 @@ module _ (now : Now) (slot : ℕ) where
   end_if_mild b n name None ne r = tt
   end_if_mild b n name (Some o) ne r = end_mild b [] n name ne r
 
-  open_other : (b : Bool) (n : ℕ) (o : Opening) → (n == slot) ≡ false → Remains b [] → AllOf (Mild slot b) (open_parts now n o)
+  pub open_other : (b : Bool) (n : ℕ) (o : Opening) → (n == slot) ≡ false → Remains b [] → AllOf (Mild slot b) (open_parts now n o)
   open_other b n o ne r =
       all_append (Mild slot b) (end_if_open now n end_name.Replaced (opening_in now n)) (Opens n o ∷ last_of n)
       (end_if_mild b n end_name.Replaced (opening_in now n) ne r)

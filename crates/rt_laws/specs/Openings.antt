@@ -7,7 +7,7 @@ use Rattle.rt_entry.specs.declared.input.Settings.{Settings}
 use Rattle.rt_entry.specs.declared.story.Opening.{Opening}
 use Rattle.rt_entry.specs.declared.answer.Answer.{Answer}
 use Rattle.rt_entry.specs.declared.answer.Answer.TheVariants.{Opened, Says, Ended}
-use Rattle.rt_entry.specs.Story.{opening_at, slot_count}
+use Rattle.rt_entry.specs.Story.{is_stopped, opening_at, slot_count}
 use Rattle.rt_entry.specs.Doings.{story}
 use Rattle.rt_entry.specs.Answers.{told, all_answers}
 
@@ -34,3 +34,8 @@ module _ (c : Catalog) (s : Settings) where
   OpeningsAreWhole =
       (journal : List Input) (slot : ℕ) → slot < slot_count
       → left_open false (told slot (all_answers c s journal)) ≡ Some (is_there (opening_at (story c s journal) slot))
+
+  -- behind a stop no slot is open
+  abbrev pub StoppedIsShut : Type 0
+  StoppedIsShut =
+      (journal : List Input) (slot : ℕ) → is_stopped (story c s journal) ≡ true → slot < slot_count → opening_at (story c s journal) slot ≡ None

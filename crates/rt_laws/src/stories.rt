@@ -4,7 +4,7 @@ ghost use Rattle.rt_laws.specs.After.{StoryGrows, TablesGrow};
 ghost use Rattle.rt_laws.specs.Audited.{ToldIdsRise};
 ghost use Rattle.rt_laws.specs.Ids.{IdsRise};
 ghost use Rattle.rt_laws.specs.Members.{NumbersAreApart, SlotsAreOpen, TopicsAreApart};
-ghost use Rattle.rt_laws.specs.Openings.{OpeningsAreWhole};
+ghost use Rattle.rt_laws.specs.Openings.{OpeningsAreWhole, StoppedIsShut};
 ghost use Rattle.rt_laws.specs.Tracks.{ChannelsTrackOnce, ReferencesAreApart, TracksAreMembers};
 
 /// What an input finds comes from what the input before it found and did: openings, members with their claims, tracks and ids; and the tables that it
@@ -40,7 +40,8 @@ pub fn ids_rise()
 {}
 
 /// What a slot is told goes opening by opening: each begins with its mark and ends with its terminator, and nothing is said between them. What is left open
-/// is what the story has open.
+/// is what the story has open, and behind a stop that is nothing.
 pub fn openings_are_whole()
-    ensures { (c : CatalogData) (s : SettingsData) → OpeningsAreWhole c s }
+    ensures whole { (c : CatalogData) (s : SettingsData) → OpeningsAreWhole c s }
+    ensures stopped { (c : CatalogData) (s : SettingsData) → StoppedIsShut c s }
 {}
