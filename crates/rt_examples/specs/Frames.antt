@@ -1,10 +1,17 @@
 -- Frames of version 2: a join, a heartbeat, a broadcast to its sender, a topic that wasn't joined, and a bad frame.
-use Rattle.std.specs.Prelude.{◌≡◌, List, [], ◌∷◌, codes}
+use Rattle.std.specs.Prelude.{◌≡◌, ℕ, List, [], ◌∷◌, codes, Option, Some, None, Ok, Err}
+use Rattle.rt_json.specs.declared.tree.Json.TheVariants.{Null, Object}
+use Rattle.rt_phx.specs.declared.message.Message.{Message as Said}
 use Rattle.rt_phx.specs.declared.message.Version.TheVariants.{V1, V2}
 use Rattle.rt_phx.specs.declared.end.EndName.TheVariants.{BadFrame}
 use Rattle.rt_entry.specs.declared.input.Input.{Input}
 use Rattle.rt_entry.specs.declared.input.Input.TheVariants.{Opened, Frame}
+use Rattle.rt_entry.specs.declared.story.Opening.{Opening}
+use Rattle.rt_entry.specs.declared.story.Channel.{Channel}
 use Rattle.rt_entry.specs.declared.answer.Item.TheVariants.{Message, End}
+use Rattle.rt_entry.specs.Story.{now_of}
+use Rattle.rt_entry.specs.Joining.{Checked, channel_of_join}
+use Rattle.rt_entry.specs.Doings.{story}
 use Rattle.rt_entry.specs.Answers.{due}
 use Rattle.rt_examples.specs.Notes.{notes, settings, authenticated}
 
@@ -48,3 +55,20 @@ JoinsAreRefused =
     ∷ Message (codes "{\"topic\":\"realtime:t\",\"event\":\"phx_reply\",\"payload\":{\"status\":\"error\",\"response\":{\"reason\":\"token shape\"}},\"ref\":\"4\"}")
     ∷ Message (codes "{\"topic\":\"realtime:notes\",\"event\":\"phx_reply\",\"payload\":{\"status\":\"error\",\"response\":{\"reason\":\"binding 2: bad value\"}},\"ref\":\"5\"}")
     ∷ []
+
+-- a join of a slot that has so many channels on other topics: the reason against it, where there is one
+abbrev pub why_not : Checked Channel → Option (List ℕ)
+why_not (Ok ch) = None
+why_not (Err why) = Some why
+
+abbrev pub bare_join : Said
+bare_join = record { join_ref = Null; reference = Null; topic = codes "realtime:t"; event = codes "phx_join"; payload = Object [] }
+
+abbrev pub opened : Opening
+opened = record { version = V1; claims = authenticated; heard = 0 }
+
+abbrev pub joined_beside : ℕ → Option (List ℕ)
+joined_beside others = why_not (channel_of_join notes settings (now_of (story notes settings (Opened 0 V1 authenticated ∷ []))) 0 opened others bare_join)
+
+abbrev pub ChannelsAreLimited : Type 0
+ChannelsAreLimited = (joined_beside 99 ≡ None) × (joined_beside 100 ≡ Some (codes "too many channels"))

@@ -70,3 +70,16 @@ WatcherGets =
     ∷ replied (codes "{\"postgres_changes\":[]}") (codes "\"9\"")
     ∷ said (codes "presence_state") (codes "{}") (codes "null")
     ∷ []
+
+-- a channel that asks for no key tracks under the number of its join
+abbrev pub keyless : List Input
+keyless = Frame 0 (track (codes "{\"x\":1}") (codes "\"2\"")) ∷ Frame 0 (join [] (codes "\"1\"")) ∷ Opened 0 V1 authenticated ∷ []
+
+abbrev pub KeylessGets : Type 0
+KeylessGets =
+    due notes settings keyless 0 ≡
+    replied (codes "{\"postgres_changes\":[]}") (codes "\"1\"")
+    ∷ said (codes "presence_state") (codes "{}") (codes "null")
+    ∷ replied (codes "{}") (codes "\"2\"")
+    ∷ said (codes "presence_diff") (codes "{\"joins\":{\"1\":{\"metas\":[{\"phx_ref\":\"2\",\"x\":1}]}},\"leaves\":{}}") (codes "null")
+    ∷ []

@@ -3,7 +3,7 @@
 
 ghost use Rattle.rt_examples.specs.Statements.{StatementsMeanLists, OpaqueKeyIsRefused, SecondRoleIsRefused, PublicIsNoRole, UnknownColumnIsRefused};
 ghost use Rattle.rt_examples.specs.Vectors.{TagIsKnown, TokenHasNoRole, TokenExpires, UnsignedIsRefused, TwoPartsAreNoToken};
-ghost use Rattle.rt_examples.specs.Frames.{FramesAreAnswered, JoinsAreRefused};
+ghost use Rattle.rt_examples.specs.Frames.{ChannelsAreLimited, FramesAreAnswered, JoinsAreRefused};
 ghost use Rattle.rt_examples.specs.Errors.{ErrorsAreSent, HiddenKeyIsAnError};
 ghost use Rattle.rt_examples.specs.Deletes.{DeletesShowTheKey};
 ghost use Rattle.rt_examples.specs.Restrictive.{RestrictiveRefuses};
@@ -14,17 +14,18 @@ ghost use Rattle.rt_examples.specs.Identities.{IdentityIsBound, NoIdentityIsBoun
 ghost use Rattle.rt_examples.specs.Notes.{FirstRun};
 ghost use Rattle.rt_examples.specs.Owners.{OwnersAreJudged};
 ghost use Rattle.rt_examples.specs.Renewal.{TokenIsSigned, RenewalIsFollowed};
-ghost use Rattle.rt_examples.specs.Tracks.{LeaverGets, WatcherGets};
+ghost use Rattle.rt_examples.specs.Tracks.{KeylessGets, LeaverGets, WatcherGets};
 
 /// One insert, from a join to the printed change: whole output of the slot that joined.
 pub fn first_run()
     ensures { FirstRun }
 {}
 
-/// Tracks of a slot, a second track, and its departure, as both slots of the topic get them.
+/// Tracks of a slot, a second track, and its departure, as both slots of the topic get them; and a track of a channel that asks for no key.
 pub fn tracks()
     ensures leaver { LeaverGets }
     ensures watcher { WatcherGets }
+    ensures keyless { KeylessGets }
 {}
 
 /// A full outbox cuts its slot, and a later opening is given as usual.
@@ -78,10 +79,11 @@ pub fn errors()
     ensures hidden_key { HiddenKeyIsAnError }
 {}
 
-/// Frames of version 2, and joins that are refused.
+/// Frames of version 2, joins that are refused, and the limit of a slot's channels.
 pub fn frames()
     ensures answered { FramesAreAnswered }
     ensures refused { JoinsAreRefused }
+    ensures limited { ChannelsAreLimited }
 {}
 
 /// Vectors of HMAC and of tokens from outside.

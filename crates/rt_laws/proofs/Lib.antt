@@ -37,6 +37,7 @@ mod Since
 pub mod Sound
 mod Starts
 pub mod Stepping
+mod Stops
 mod Telling
 pub mod Texts
 mod Tracked

@@ -1,5 +1,5 @@
 -- What an entry gives the slots, by its fields alone.
-use Rattle.std.specs.Prelude.{◌≡◌, ℕ, ◌==◌, ◌%◌, Bool, List, [], ◌∷◌, ◌++◌, map}
+use Rattle.std.specs.Prelude.{◌≡◌, ℕ, ◌==◌, ◌%◌, Bool, true, false, List, [], ◌∷◌, ◌++◌, map, count_by}
 use Rattle.std.specs.List.{filter, filter_map, flat_map}
 use Rattle.rt_value.specs.declared.row.Row.{Row}
 use Rattle.rt_filter.specs.declared.subscription.Subscription.{Subscription}
@@ -12,11 +12,16 @@ use Rattle.rt_entry.specs.declared.entry.Entry.{Entry}
 use Rattle.rt_entry.specs.declared.entry.Entry.TheVariants.{Batch, Notice, Opened, Ended, Stop}
 use Rattle.rt_entry.specs.declared.entry.ChannelView.{ChannelView}
 use Rattle.rt_entry.specs.Doings.{poll_parts}
-use Rattle.rt_entry.specs.Answers.{Answers, Mark, answer_of, answers, mark_answers, is_in_lane, lane_marks, marks_of, entry_of}
+use Rattle.rt_entry.specs.Story.{is_stop}
+use Rattle.rt_entry.specs.Answers.{Answers, Mark, stop, answer_of, answers, mark_answers, is_in_lane, lane_marks, marks_of, entry_of}
 
 -- the channel's slot is one of the lane's
 abbrev pub is_of_lane : ℕ → ℕ → ChannelView → Bool
 is_of_lane workers lane v = v.slot % workers == lane
+
+abbrev pub is_stop_mark : Mark → Bool
+is_stop_mark stop = true
+is_stop_mark _ = false
 
 module _ (c : Catalog) (s : Settings) where
   -- what changes give the channels
@@ -60,3 +65,7 @@ module _ (c : Catalog) (s : Settings) where
       (later before : List Input) (i : Input) (lane : ℕ)
       → (rest : List Entry) × (map (entry_of c s) (lane_marks c s (later ++ i ∷ before) lane)
       ≡ map (entry_of c s) (lane_marks c s before lane) ++ (map (entry_of c s) (marks_of c s lane before i) ++ rest))
+
+  -- a lane has as many stops as the journal
+  abbrev pub StopsAreMarked : Type 0
+  StopsAreMarked = (journal : List Input) (lane : ℕ) → count_by is_stop_mark (lane_marks c s journal lane) ≡ count_by is_stop journal

@@ -1,6 +1,6 @@
 ghost use Rattle.rt_catalog.specs.declared.catalog.Catalog.{Catalog as CatalogData};
 ghost use Rattle.rt_entry.specs.declared.input.Settings.{Settings as SettingsData};
-ghost use Rattle.rt_laws.specs.Fan.{EntriesGive, LaneFans, MarksStay, EntriesAnswer, EntriesStay};
+ghost use Rattle.rt_laws.specs.Fan.{EntriesGive, LaneFans, MarksStay, EntriesAnswer, EntriesStay, StopsAreMarked};
 
 /// The central law: what the entry of a mark gives is what the mark gives, and what the entries of an input give a lane's slots is what the input
 /// answers them. Whatever inputs come later, those entries stand at their place.
@@ -18,4 +18,9 @@ pub fn lanes_fan_out()
 /// A lane's marks of a journal begin those of each longer one.
 pub fn marks_stay()
     ensures { (c : CatalogData) (s : SettingsData) → MarksStay c s }
+{}
+
+/// A lane has as many stops as the journal.
+pub fn stops_are_marked()
+    ensures { (c : CatalogData) (s : SettingsData) → StopsAreMarked c s }
 {}

@@ -9,7 +9,7 @@ mod steps;
 mod stories;
 
 pub use access::{audit_decides, changes_are_allowed, given_is_allowed, verdicts_are_one};
-pub use lanes::{entries_give, lanes_fan_out, marks_stay};
+pub use lanes::{entries_give, lanes_fan_out, marks_stay, stops_are_marked};
 pub use presence::{
     answers_are_readable, clients_agree, clients_follow, departures_are_told, given_clients_agree,
     readers_agree, states_are_read, taken_clients_agree,
