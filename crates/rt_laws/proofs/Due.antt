@@ -2,7 +2,6 @@
 use Rattle.std.proofs.Common.{◌≡◌, ℕ, ◌<◌, Bool, true, false, ◌&&◌, cond, List, [], ◌∷◌, map, length, Option, Some, None, refl, sym, ap, subst, ◌∙◌, arith, inl, inr}
 use Rattle.std.specs.Prelude.{◌==◌, Contains}
 use Rattle.std.specs.List.{filter, filter_map, flat_map, enumerate_from}
-use Rattle.std.proofs.lemmas.Bool.Decides.{eqb_tells}
 use Rattle.rt_value.specs.declared.row.Row.{Row}
 use Rattle.rt_value.specs.Tables.{rows_of_table}
 use Rattle.rt_value.proofs.Among.{Among, to_contains, from_contains, among_flat, among_map, among_filter, among_filter_map}
@@ -34,15 +33,13 @@ use Rattle.rt_laws.proofs.Journals.{story_shaped}
 use Rattle.rt_laws.proofs.Unique.{same_member}
 use Rattle.rt_laws.proofs.Columns.{all_from, shape_shows}
 use Rattle.rt_laws.proofs.Sent.{sent_verdict, verdict_when_sent}
+use Rattle.rt_laws.proofs.Shapes.{same_number}
 
 pub and_parts : (a b d : Bool) → (a && b && d) ≡ true → (a ≡ true) × (b ≡ true) × (d ≡ true)
 and_parts true true true e = (refl, refl, refl)
 and_parts true true false e = absurd (cc)
 and_parts true false d e = absurd (cc)
 and_parts false b d e = absurd (cc)
-
-same_number : (n m : ℕ) → (n == m) ≡ true → n ≡ m
-same_number n m e = elim (eqb_tells n m) [ inl t ↦ t.1 | inr t ↦ absurd (let k : true ≡ false = sym e ∙ t.0 in cc) ]
 
 -- what an answer says, and to whom
 abbrev slot_said : Option (ℕ × Answer) → ℕ

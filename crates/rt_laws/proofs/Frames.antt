@@ -33,11 +33,11 @@ use Rattle.rt_laws.specs.After.{tracks_in, tracks_after}
 use Rattle.rt_laws.specs.Departures.{leave_for}
 use Rattle.rt_laws.specs.Views.{leaves_in, Fit}
 use Rattle.rt_laws.proofs.Metas.{reads_difference}
-use Rattle.rt_laws.proofs.Shapes.{AreApart, Below, IsMade, room, join_made}
+use Rattle.rt_laws.proofs.Shapes.{AreApart, Below, IsMade, room, join_made, same_number}
 use Rattle.rt_laws.proofs.Unique.{RisingMembers}
 use Rattle.rt_laws.proofs.Tracked.{Apart}
 use Rattle.rt_laws.proofs.Hears.{hears, hears_append, hears_own, no_departures}
-use Rattle.rt_laws.proofs.Turns.{IsMute, turns_each, turns_close, turns_fail, mute_view, view_append, none_found, one_found, of_one, leave_view, on_turn, eqb_turn, no_track_parts, same_number, other_false, shown_still}
+use Rattle.rt_laws.proofs.Turns.{IsMute, turns_each, turns_close, turns_fail, mute_view, view_append, none_found, one_found, of_one, leave_view, on_turn, eqb_turn, no_track_parts, other_false, shown_still}
 use Rattle.rt_laws.proofs.Follows.{Turn, then_turn, mute_turn, end_turn, turn_holds, after_with}
 
 one_test : (k o : Bool) → (o && not (k || false)) ≡ ((not (k || false) && not false) && o)

@@ -27,7 +27,7 @@ use Rattle.rt_entry.specs.Doings.{in_turn, is_of_slot, is_on, channels_of, openi
 use Rattle.rt_entry.specs.Answers.{answer_of, answers_by}
 use Rattle.rt_entry.specs.Presence.{said_to}
 use Rattle.rt_laws.specs.Departures.{leave_for, found_by, heard}
-use Rattle.rt_laws.proofs.Shapes.{AreApart, eqb_same}
+use Rattle.rt_laws.proofs.Shapes.{AreApart, eqb_same, same_number}
 use Rattle.rt_laws.proofs.Sound.{members_in, Shaped, members_apart}
 use Rattle.rt_laws.proofs.Unique.{RisingMembers, members_rising, same_member}
 use Rattle.rt_laws.proofs.Journals.{story_shaped}
@@ -86,9 +86,6 @@ and_parts false y e = absurd (cc)
 both_true : (x y : Bool) → x ≡ true → y ≡ true → (x && y) ≡ true
 both_true true y e f = f
 both_true false y e f = absurd (cc)
-
-same_number : (n m : ℕ) → (n == m) ≡ true → n ≡ m
-same_number n m e = elim (eqb_tells n m) [ inl t ↦ t.1 | inr t ↦ absurd (let k : true ≡ false = sym e ∙ t.0 in cc) ]
 
 filter_turn : {A : Type 0} (p q : A → Bool) (xs : List A) → filter p (filter q xs) ≡ filter q (filter p xs)
 filter_turn p q xs = sym (filter_and p q xs) ∙ filter_same (λ x. q x && p x) (λ x. p x && q x) (λ x. and_swap (q x) (p x)) xs ∙ filter_and q p xs

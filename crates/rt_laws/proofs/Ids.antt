@@ -18,7 +18,7 @@ use Rattle.rt_entry.specs.Doings.{story, subscriptions, subscriptions_of}
 use Rattle.rt_laws.specs.After.{joins_of}
 use Rattle.rt_laws.specs.Ids.{RiseWithin, IdsRise}
 use Rattle.rt_laws.proofs.Grows.{joined_grows}
-use Rattle.rt_laws.proofs.Sound.{Shaped, joins_well}
+use Rattle.rt_laws.proofs.Sound.{Shaped, joins_well, none_joined}
 use Rattle.rt_laws.proofs.Journals.{story_shaped}
 
 abbrev bindings_in : List Channel → ℕ
@@ -69,10 +69,6 @@ one_follows low [] one e = tt
 one_follows low (j ∷ []) one e = (e.0, tt)
 one_follows low (j ∷ k ∷ more) (inl one) e = absurd (omega arith)
 one_follows low (j ∷ k ∷ more) (inr one) e = absurd (omega arith)
-
-none_joined : joined [] ≡ []
-unfolding joined
-none_joined = refl
 
 given_is : (st : Story) → ids_given st ≡ bindings_in (joined st)
 unfolding ids_given

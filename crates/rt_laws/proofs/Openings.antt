@@ -1,5 +1,5 @@
 -- What a slot is told goes opening by opening, over every journal.
-use Rattle.std.proofs.Common.{◌≡◌, ℕ, zero, suc, ◌+◌, ◌<◌, ◌≤◌, Bool, true, false, List, [], ◌∷◌, ◌++◌, map, Option, Some, None, refl, sym, ap, subst, ◌∙◌, arith, inl, inr}
+use Rattle.std.proofs.Common.{◌≡◌, ℕ, zero, suc, ◌+◌, ◌<◌, ◌≤◌, Bool, true, false, List, [], ◌∷◌, ◌++◌, map, length, Option, Some, None, refl, sym, ap, subst, ◌∙◌, arith, inl, inr}
 use Rattle.std.specs.Prelude.{◌==◌, codes, slice_get, option_map}
 use Rattle.std.specs.List.{filter, flat_map, enumerate_from, range_with_len}
 use Rattle.std.proofs.lemmas.Bool.Decides.{eqb_tells}
@@ -22,16 +22,16 @@ use Rattle.rt_entry.specs.Doings.{in_turn, or_none, opening_in, channels_of, end
 use Rattle.rt_entry.specs.Answers.{told, all_answers}
 use Rattle.rt_laws.specs.After.{done_by}
 use Rattle.rt_laws.specs.Openings.{left_open, is_there, OpeningsAreWhole}
-use Rattle.rt_laws.proofs.Shapes.{AreApart, Below, or_left}
+use Rattle.rt_laws.proofs.Shapes.{AreApart, Below, or_left, same_number}
 use Rattle.rt_laws.proofs.Sound.{held_below, members_apart}
 use Rattle.rt_laws.proofs.Journals.{story_shaped}
-use Rattle.rt_laws.proofs.Turns.{same_number}
 use Rattle.rt_laws.proofs.Opens.{end_has}
 use Rattle.rt_laws.proofs.Agree.{slots_open}
 use Rattle.rt_laws.proofs.Marks.{told_none, answers_none}
 use Rattle.rt_laws.proofs.Since.{told_by, told_parts, told_more}
 use Rattle.rt_laws.proofs.Turning.{Leads, Mild, left_append, leads_then, mild_leads, ends_leads, state_follows}
-use Rattle.rt_laws.proofs.Whole.{Remains, MaySay, Knows, Goes, other_number, more_gone, mild_turn, mild_fail, own_channels, may_say, end_mild, end_own, goes_mild, open_goes, end_if_goes, frame_goes, mild_poll}
+use Rattle.rt_laws.proofs.Whole.{Remains, MaySay, Knows, Goes, more_gone, mild_turn, mild_fail, own_channels, may_say, end_mild, end_own, goes_mild, open_goes, end_if_goes, frame_goes, mild_poll}
+use Rattle.rt_laws.proofs.Turns.{same_true, other_false}
 
 no_say : (now : Now) (slot : ℕ) (b : Bool) (n : ℕ) → (n == slot) ≡ false → MaySay now slot b n
 no_say now slot b n ne e = absurd (let k : false ≡ true = sym ne ∙ e in cc)
@@ -41,7 +41,7 @@ module _ (now : Now) (slot : ℕ) where
   abbrev pub Holds : Bool → ℕ → List (Option Opening) → Type 0
   Holds b from os = (n : ℕ) (o : Option Opening) → from + n ≡ slot → slice_get os n ≡ Some o → is_there o ≡ b
 
-  pub holds_more : (b : Bool) (from : ℕ) (o : Option Opening) (os : List (Option Opening)) → Holds b from (o ∷ os) → Holds b (from + 1) os
+  holds_more : (b : Bool) (from : ℕ) (o : Option Opening) (os : List (Option Opening)) → Holds b from (o ∷ os) → Holds b (from + 1) os
   holds_more b from o os h n p e f = let at : from + suc n ≡ slot = omega arith in h (suc n) p at f
 
   -- ticks
@@ -93,7 +93,7 @@ module _ (now : Now) (slot : ℕ) where
   ticks_behind b moment from [] gone lt r = tt
   ticks_behind b moment from (o ∷ os) gone lt r =
       let here = tick_parts now moment gone (from, o) in
-      let ne : (from == slot) ≡ false = other_number from slot (λ e. omega arith) in
+      let ne : (from == slot) ≡ false = other_false from slot (λ e. omega arith) in
       all_append (Mild slot b) here (in_turn (tick_parts now moment) (departed_in here ++ gone) (enumerate_from (from + 1) os))
       (tick_other b moment gone from o ne r)
       (ticks_behind b moment (from + 1) os (departed_in here ++ gone) (omega arith) (more_gone now slot b (departed_in here) gone r))
@@ -106,7 +106,7 @@ module _ (now : Now) (slot : ℕ) where
   tick_here false moment from (Some o) os gone at is r = absurd (cc)
   tick_here true moment from (Some o) os gone at is r =
       let here = tick_parts now moment gone (from, Some o) in
-      let e : (from == slot) ≡ true = elim (eqb_tells from slot) [ inl t ↦ t.0 | inr t ↦ absurd (t.1 at) ] in
+      let e : (from == slot) ≡ true = same_true from slot at in
       let land = tick_own moment gone from o e r in
       let rest = in_turn (tick_parts now moment) (departed_in here ++ gone) (enumerate_from (from + 1) os) in (
         land.0,
@@ -133,61 +133,56 @@ module _ (now : Now) (slot : ℕ) where
 
   -- a stop
 
-  pub mild_leavers : (b : Bool) (hs : List Member) → AllOf (Mild slot b) (map departs_of hs)
+  mild_leavers : (b : Bool) (hs : List Member) → AllOf (Mild slot b) (map departs_of hs)
   mild_leavers b hs = all_map (Mild slot b) departs_of hs (λ h. tt)
 
-  pub stop_other : (b : Bool) (n : ℕ) (o : Option Opening) → (n == slot) ≡ false → AllOf (Mild slot b) (stop_parts now (n, o))
+  stop_other : (b : Bool) (n : ℕ) (o : Option Opening) → (n == slot) ≡ false → AllOf (Mild slot b) (stop_parts now (n, o))
   stop_other b n None ne = tt
   stop_other b n (Some o) ne =
       all_append (Mild slot b) (map departs_of (channels_of now n)) (Ends n end_name.Stopped ∷ []) (mild_leavers b (channels_of now n)) (ne, tt)
 
-  pub stops_behind : (b : Bool) (from : ℕ) (os : List (Option Opening)) → slot < from
+  stops_behind : (b : Bool) (from : ℕ) (os : List (Option Opening)) → slot < from
       → AllOf (Mild slot b) (flat_map (stop_parts now) (enumerate_from from os))
   stops_behind b from [] lt = tt
   stops_behind b from (o ∷ os) lt =
-      let ne : (from == slot) ≡ false = other_number from slot (λ e. omega arith) in
+      let ne : (from == slot) ≡ false = other_false from slot (λ e. omega arith) in
       all_append (Mild slot b) (stop_parts now (from, o)) (flat_map (stop_parts now) (enumerate_from (from + 1) os)) (stop_other b from o ne)
       (stops_behind b (from + 1) os (omega arith))
 
-  stop_here : (b : Bool) (from : ℕ) (o : Option Opening) (os : List (Option Opening)) → from ≡ slot → is_there o ≡ b
-      → Goes now slot b (flat_map (stop_parts now) (enumerate_from from (o ∷ os)))
-  stop_here b from None os at is =
-      goes_mild now slot b (flat_map (stop_parts now) (enumerate_from (from + 1) os)) (stops_behind b (from + 1) os (omega arith))
-  stop_here false from (Some o) os at is = absurd (cc)
-  stop_here true from (Some o) os at is =
+  stop_ends : (b : Bool) (from : ℕ) (o : Option Opening) (os : List (Option Opening)) → from ≡ slot → is_there o ≡ b
+      → Leads slot b (flat_map (stop_parts now) (enumerate_from from (o ∷ os))) false
+  stop_ends false from None os at is =
+      mild_leads slot false (flat_map (stop_parts now) (enumerate_from (from + 1) os)) (stops_behind false (from + 1) os (omega arith))
+  stop_ends true from None os at is = absurd (cc)
+  stop_ends false from (Some o) os at is = absurd (cc)
+  stop_ends true from (Some o) os at is =
       let ds = map departs_of (channels_of now from) in
-      let e : (from == slot) ≡ true = elim (eqb_tells from slot) [ inl t ↦ t.0 | inr t ↦ absurd (t.1 at) ] in
       let rest = flat_map (stop_parts now) (enumerate_from (from + 1) os) in
-      let here : Leads slot true (ds ++ Ends from end_name.Stopped ∷ []) false =
-      leads_then slot true true false ds (Ends from end_name.Stopped ∷ []) (mild_leads slot true ds (mild_leavers true (channels_of now from)))
-      (ends_leads slot from false end_name.Stopped [] e refl) in (
-        false,
-        leads_then slot true false false (ds ++ Ends from end_name.Stopped ∷ []) rest here
-            (mild_leads slot false rest (stops_behind false (from + 1) os (omega arith))),
-      )
+      leads_then slot true false false (ds ++ Ends from end_name.Stopped ∷ []) rest
+      (leads_then slot true true false ds (Ends from end_name.Stopped ∷ []) (mild_leads slot true ds (mild_leavers true (channels_of now from)))
+      (ends_leads slot from false end_name.Stopped [] (same_true from slot at) refl))
+      (mild_leads slot false rest (stops_behind false (from + 1) os (omega arith)))
 
-  stops : (b : Bool) (from : ℕ) (os : List (Option Opening)) → from ≤ slot → Holds b from os
-      → Goes now slot b (flat_map (stop_parts now) (enumerate_from from os))
-  stops b from [] le h = goes_mild now slot b [] tt
-  stops b from (o ∷ os) le h =
+  pub stops_end : (b : Bool) (from : ℕ) (os : List (Option Opening)) → from ≤ slot → slot < from + length os → Holds b from os
+      → Leads slot b (flat_map (stop_parts now) (enumerate_from from os)) false
+  stops_end b from [] le lt h = absurd (omega arith)
+  stops_end b from (o ∷ os) le lt h =
       elim (eqb_tells from slot) [
-        | inl t ↦ let at = t.1 in stop_here b from o os t.1 (h 0 o (omega arith) refl)
+        | inl t ↦ let at = t.1 in stop_ends b from o os t.1 (h 0 o (omega arith) refl)
         | inr t ↦
             let ne = t.1 in
-            let rest = stops b (from + 1) os (omega arith) (holds_more b from o os h) in (
-              rest.0,
-              leads_then slot b b rest.0 (stop_parts now (from, o)) (flat_map (stop_parts now) (enumerate_from (from + 1) os))
-                  (mild_leads slot b (stop_parts now (from, o)) (stop_other b from o t.0)) rest.1,
-            )
+            leads_then slot b b false (stop_parts now (from, o)) (flat_map (stop_parts now) (enumerate_from (from + 1) os))
+            (mild_leads slot b (stop_parts now (from, o)) (stop_other b from o t.0))
+            (stops_end b (from + 1) os (omega arith) (omega arith) (holds_more b from o os h))
       ]
 
   -- every kind of input
 
   module _ (below : AllOf (Below now.number) now.members) (apart : AreApart now.members) (c : Catalog) (s : Settings) where
-    input_goes : (b : Bool) (tables : List (List Row)) (i : Input) → is_there (opening_in now slot) ≡ b → Remains now slot b []
-        → Goes now slot b (doings c s now tables i)
+    input_goes : (b : Bool) (tables : List (List Row)) (i : Input) → slot < length now.opens → is_there (opening_in now slot) ≡ b
+        → Remains now slot b [] → Goes now slot b (doings c s now tables i)
     unfolding doings poll_parts
-    input_goes b tables i is r = by i
+    input_goes b tables i lt is r = by i
       where
         knows : (n : ℕ) → Knows now slot b n (opening_in now n)
         knows n e = let P : ℕ → Type 0 = λ k. is_there (opening_in now k) ≡ b in subst P (sym (same_number n slot e)) is
@@ -204,7 +199,7 @@ module _ (now : Now) (slot : ℕ) where
         by (Gone n) = end_if_goes now slot b n end_name.Gone (opening_in now n) (knows n) r
         by (Poll changes) = goes_mild now slot b _ (mild_poll now slot below apart c s b tables changes r)
         by (Tick m) = ticks b m 0 now.opens [] (omega arith) holds r
-        by Stop = stops b 0 now.opens (omega arith) holds
+        by Stop = (false, stops_end b 0 now.opens (omega arith) (omega arith) holds)
 
 -- over journals
 
@@ -216,6 +211,10 @@ slot_in f from (suc n) (suc k) lt = let e : (from + 1) + k ≡ from + suc k = om
 pub opens_at : (st : Story) (slot : ℕ) → slot < slot_count → opening_in (now_of st) slot ≡ opening_at st slot
 unfolding now_of every_slot
 opens_at st slot lt = ap or_none (slot_in (opening_at st) 0 256 slot lt) ∙ (let e : 0 + slot ≡ slot = omega arith in ap (opening_at st) e)
+
+pub opens_many : (st : Story) → length (now_of st).opens ≡ slot_count
+unfolding now_of every_slot
+opens_many st = refl
 
 pub there_heard : (i : Input) (moment slot : ℕ) (o : Option Opening) → is_there (option_map (heard_in i moment slot) o) ≡ is_there o
 there_heard i moment slot None = refl
@@ -235,7 +234,7 @@ module _ (c : Catalog) (s : Settings) where
   one_input journal i slot lt =
       let st = story c s journal in
       let h = story_shaped c s journal in
-      input_goes (now_of st) slot (held_below st h) (members_apart st h) c s (is_there (opening_at st slot)) _ i (ap is_there (opens_at st slot lt))
+      input_goes (now_of st) slot (held_below st h) (members_apart st h) c s (is_there (opening_at st slot)) _ i (let e = opens_many st in omega arith) (ap is_there (opens_at st slot lt))
       (open_where journal slot lt)
 
   pub openings_whole : OpeningsAreWhole c s

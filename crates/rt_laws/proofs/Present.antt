@@ -1,8 +1,7 @@
 -- What is present in every journal.
-use Rattle.std.proofs.Common.{◌≡◌, ℕ, suc, ◌<◌, Bool, true, false, ◌||◌, List, [], ◌∷◌, length, refl, sym, ap, subst, ◌∙◌, inl, inr}
+use Rattle.std.proofs.Common.{◌≡◌, ℕ, suc, ◌<◌, Bool, true, false, ◌||◌, List, [], ◌∷◌, length, refl, ap, subst, inl, inr}
 use Rattle.std.specs.Prelude.{◌==◌, Contains}
 use Rattle.std.specs.List.{list_any}
-use Rattle.std.proofs.lemmas.Bool.Decides.{eqb_tells}
 use Rattle.rt_value.proofs.Among.{Among, from_contains, to_contains, among_filter, map_among}
 use Rattle.rt_value.proofs.Plain.{all_among}
 use Rattle.rt_catalog.specs.declared.catalog.Catalog.{Catalog}
@@ -17,6 +16,7 @@ use Rattle.rt_laws.specs.Tracks.{tracks_of_journal, IsMembers}
 use Rattle.rt_laws.proofs.Sound.{members_in}
 use Rattle.rt_laws.proofs.Tracked.{is_present}
 use Rattle.rt_laws.proofs.Journals.{story_shaped}
+use Rattle.rt_laws.proofs.Shapes.{same_number}
 
 found_or : {A : Type 0} (p : A → Bool) (x : A) (xs : List A) (b : Bool) → p x ≡ b → (list_any p xs ≡ true → (y : A) × Among xs y × (p y ≡ true))
     → (b || list_any p xs) ≡ true → (y : A) × Among (x ∷ xs) y × (p y ≡ true)
@@ -26,9 +26,6 @@ found_or p x xs false e f h = let r = f h in (r.0, inr r.1, r.2)
 any_found : {A : Type 0} (p : A → Bool) (xs : List A) → list_any p xs ≡ true → (y : A) × Among xs y × (p y ≡ true)
 any_found p [] h = absurd (cc)
 any_found p (x ∷ xs) h = found_or p x xs (p x) refl (any_found p xs) h
-
-same_number : (n m : ℕ) → (n == m) ≡ true → n ≡ m
-same_number n m e = elim (eqb_tells n m) [ inl t ↦ t.1 | inr t ↦ absurd (let k : true ≡ false = sym e ∙ t.0 in cc) ]
 
 -- whose channel is a member
 holder : (st : Story) (t : Track) → Among (present_at st) t → (h : Member) × Among (members_in st) h × (h.channel.number ≡ t.channel)

@@ -1,6 +1,6 @@
 -- Behind a stop no slot is open.
 use Rattle.std.proofs.Common.{◌≡◌, ℕ, zero, suc, ◌+◌, ◌<◌, ◌≤◌, Bool, true, false, ◌||◌, List, [], ◌∷◌, ◌++◌, map, length, Option, Some, None, refl, sym, ap, subst, ◌∙◌, arith, inl, inr}
-use Rattle.std.specs.Prelude.{◌==◌, slice_get, option_map, if◌then◌else◌}
+use Rattle.std.specs.Prelude.{slice_get, option_map, if◌then◌else◌}
 use Rattle.std.specs.List.{flat_map, enumerate_from, range_with_len}
 use Rattle.std.proofs.lemmas.Bool.Decides.{eqb_tells, leb_tells}
 use Rattle.rt_value.specs.declared.row.Row.{Row}
@@ -14,50 +14,18 @@ use Rattle.rt_entry.specs.declared.story.Opening.{Opening}
 use Rattle.rt_entry.specs.declared.story.Part.{Part}
 use Rattle.rt_entry.specs.declared.story.Part.TheVariants.{Opens, Ends}
 use Rattle.rt_entry.specs.Story.{Story, Now, now_of, heard_in, opened_after, opening_at, moment_at, is_stop, is_stopped, every_slot, slot_count, tables_left}
-use Rattle.rt_entry.specs.Doings.{in_turn, or_none, opening_in, channels_of, end_if_open, open_parts, tick_parts, departs_of, stop_parts, opening_of, frame_parts, poll_parts, doings, story}
+use Rattle.rt_entry.specs.Doings.{in_turn, or_none, opening_in, end_if_open, open_parts, tick_parts, stop_parts, opening_of, frame_parts, poll_parts, doings, story}
 use Rattle.rt_laws.specs.After.{done_by}
 use Rattle.rt_laws.specs.Openings.{is_there, StoppedIsShut}
 use Rattle.rt_laws.proofs.Sound.{held_below, members_apart}
 use Rattle.rt_laws.proofs.Journals.{story_shaped}
-use Rattle.rt_laws.proofs.Turning.{Leads, leads_then, mild_leads, opens_leads, ends_leads, state_follows}
+use Rattle.rt_laws.proofs.Turning.{Leads, mild_leads, opens_leads, ends_leads, state_follows}
 use Rattle.rt_laws.proofs.Whole.{Remains, mild_poll, open_other}
-use Rattle.rt_laws.proofs.Openings.{Holds, holds_more, mild_leavers, stop_other, stops_behind, opens_at, there_heard, open_where}
+use Rattle.rt_laws.proofs.Openings.{Holds, stops_end, opens_at, opens_many, there_heard, open_where}
 
 not_there : (o : Option Opening) → is_there o ≡ false → o ≡ None
 not_there None e = refl
 not_there (Some o) e = absurd (cc)
-
--- whether the slot has this number
-self : (n slot : ℕ) → n ≡ slot → (n == slot) ≡ true
-self n slot e = elim (eqb_tells n slot) [ inl t ↦ t.0 | inr t ↦ absurd (t.1 e) ]
-
-module _ (now : Now) (slot : ℕ) where
-  stop_ends : (b : Bool) (from : ℕ) (o : Option Opening) (os : List (Option Opening)) → from ≡ slot → is_there o ≡ b
-      → Leads slot b (flat_map (stop_parts now) (enumerate_from from (o ∷ os))) false
-  stop_ends false from None os at is =
-      mild_leads slot false (flat_map (stop_parts now) (enumerate_from (from + 1) os)) (stops_behind now slot false (from + 1) os (omega arith))
-  stop_ends true from None os at is = absurd (cc)
-  stop_ends false from (Some o) os at is = absurd (cc)
-  stop_ends true from (Some o) os at is =
-      let ds = map departs_of (channels_of now from) in
-      let rest = flat_map (stop_parts now) (enumerate_from (from + 1) os) in
-      leads_then slot true false false (ds ++ Ends from end_name.Stopped ∷ []) rest
-      (leads_then slot true true false ds (Ends from end_name.Stopped ∷ []) (mild_leads slot true ds (mild_leavers now slot true (channels_of now from)))
-      (ends_leads slot from false end_name.Stopped [] (self from slot at) refl))
-      (mild_leads slot false rest (stops_behind now slot false (from + 1) os (omega arith)))
-
-  stops_end : (b : Bool) (from : ℕ) (os : List (Option Opening)) → from ≤ slot → slot < from + length os → Holds now slot b from os
-      → Leads slot b (flat_map (stop_parts now) (enumerate_from from os)) false
-  stops_end b from [] le lt h = absurd (omega arith)
-  stops_end b from (o ∷ os) le lt h =
-      elim (eqb_tells from slot) [
-        | inl t ↦ let at = t.1 in stop_ends b from o os t.1 (h 0 o (omega arith) refl)
-        | inr t ↦
-            let ne = t.1 in
-            leads_then slot b b false (stop_parts now (from, o)) (flat_map (stop_parts now) (enumerate_from (from + 1) os))
-            (mild_leads slot b (stop_parts now (from, o)) (stop_other now slot b from o t.0))
-            (stops_end b (from + 1) os (omega arith) (omega arith) (holds_more now slot b from o os h))
-      ]
 
 no_ticks : (now : Now) (moment : ℕ) (gone : List ℕ) (from : ℕ) (os : List (Option Opening)) → AllOf (λ o. o ≡ None) os
     → in_turn (tick_parts now moment) gone (enumerate_from from os) ≡ []
@@ -86,10 +54,6 @@ module _ (c : Catalog) (s : Settings) (journal : List Input) where
   abbrev now : Now
   now = now_of st
 
-  many : length now.opens ≡ slot_count
-  unfolding now_of every_slot
-  many = refl
-
   stopped : is_stopped st ≡ true → now.stopped ≡ true
   unfolding now_of
   stopped e = e
@@ -101,7 +65,7 @@ module _ (c : Catalog) (s : Settings) (journal : List Input) where
 
     shut_in : (n : ℕ) → opening_in now n ≡ None
     shut_in n = elim (leb_tells 256 n) [
-      | inl t ↦ let le = t.1 in let e = many in ap or_none (past_end now.opens n (omega arith))
+      | inl t ↦ let le = t.1 in let e = opens_many st in ap or_none (past_end now.opens n (omega arith))
       | inr t ↦ opens_at st n t.1 ∙ shut n t.1
     ]
 
@@ -143,7 +107,7 @@ module _ (c : Catalog) (s : Settings) (journal : List Input) where
   stop_shuts : (tables : List (List Row)) (slot : ℕ) → slot < slot_count → Leads slot (is_there (opening_at st slot)) (doings c s now tables Stop) false
   unfolding doings
   stop_shuts tables slot lt =
-      let e = many in
+      let e = opens_many st in
       stops_end now slot (is_there (opening_at st slot)) 0 now.opens (omega arith) (omega arith) holds
     where
       holds : Holds now slot (is_there (opening_at st slot)) 0 now.opens

@@ -237,7 +237,7 @@ members_more l before h = let w = joins_well l before h in members_grow l before
 abbrev pub IsBelow : ℕ → Channel → Type 0
 IsBelow n ch = ch.number < n
 
-none_joined : joined [] ≡ []
+pub none_joined : joined [] ≡ []
 unfolding joined
 none_joined = refl
 

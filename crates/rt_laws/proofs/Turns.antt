@@ -27,7 +27,7 @@ use Rattle.rt_laws.specs.After.{tracks_in}
 use Rattle.rt_laws.specs.Departures.{leave_for}
 use Rattle.rt_laws.specs.Views.{leaves_in}
 use Rattle.rt_laws.proofs.Metas.{reads_difference}
-use Rattle.rt_laws.proofs.Shapes.{AreApart}
+use Rattle.rt_laws.proofs.Shapes.{AreApart, same_number}
 use Rattle.rt_laws.proofs.Unique.{RisingMembers}
 use Rattle.rt_laws.proofs.Tracked.{Apart}
 use Rattle.rt_laws.proofs.Hears.{hears, hears_append, hears_leave, none_leave}
@@ -149,9 +149,6 @@ same_true n m e = elim (eqb_tells n m) [ inl t ↦ t.0 | inr t ↦ absurd (t.1 e
 
 pub other_false : (n m : ℕ) → (n ≡ m → ⊥) → (n == m) ≡ false
 other_false n m ne = elim (eqb_tells n m) [ inl t ↦ absurd (ne t.1) | inr t ↦ t.0 ]
-
-pub same_number : (n m : ℕ) → (n == m) ≡ true → n ≡ m
-same_number n m e = elim (eqb_tells n m) [ inl t ↦ t.1 | inr t ↦ absurd (let k : true ≡ false = sym e ∙ t.0 in cc) ]
 
 pub no_track_parts : (joins leaves : List Track) (ms : List Member) → tracks_in (map (diff_to joins leaves) ms) ≡ []
 no_track_parts joins leaves [] = refl

@@ -1,5 +1,5 @@
 -- No two members have the same number.
-use Rattle.std.proofs.Common.{◌≡◌, ◌⊎◌, ℕ, ◌<◌, Bool, true, false, not, cond, List, [], ◌∷◌, ◌++◌, map, length, refl, sym, ap, subst, ◌∙◌, arith, inl, inr}
+use Rattle.std.proofs.Common.{◌≡◌, ◌⊎◌, ℕ, ◌<◌, Bool, true, false, not, cond, List, [], ◌∷◌, ◌++◌, map, length, sym, ap, subst, ◌∙◌, arith, inl, inr}
 use Rattle.std.specs.Prelude.{⊤}
 use Rattle.std.specs.List.{filter}
 use Rattle.rt_value.proofs.Among.{Among}
@@ -9,7 +9,7 @@ use Rattle.rt_entry.specs.declared.story.Member.{Member}
 use Rattle.rt_entry.specs.Story.{Story, joined, departed, has, members_at, member_in}
 use Rattle.rt_laws.specs.After.{joins_of}
 use Rattle.rt_laws.proofs.Grows.{joined_grows}
-use Rattle.rt_laws.proofs.Sound.{Shaped, members_in, IsBelow, joined_below, joins_well}
+use Rattle.rt_laws.proofs.Sound.{Shaped, members_in, IsBelow, joined_below, joins_well, none_joined}
 
 abbrev pub Rising : List Channel → Type 0
 Rising [] = ⊤
@@ -48,10 +48,6 @@ rising_append n (x ∷ xs) js r b one e =
           (λ d k. omega arith) e),
       rising_append n xs js r.1 b.1 one e,
     )
-
-none_joined : joined [] ≡ []
-unfolding joined
-none_joined = refl
 
 pub joined_rising : (st : Story) → Shaped st → Rising (joined st)
 joined_rising [] h = let P : List Channel → Type 0 = Rising in subst P (sym none_joined) tt

@@ -1,5 +1,5 @@
 -- What a step leaves as it was.
-use Rattle.std.proofs.Common.{◌≡◌, ◌⊎◌, ℕ, ◌+◌, ◌-◌, ◌≤◌, Bool, true, false, ◌&&◌, List, [], ◌∷◌, ◌++◌, length, Option, Some, None, refl, ap, subst, arith, inl, inr}
+use Rattle.std.proofs.Common.{not, ◌≡◌, ◌⊎◌, ℕ, ◌+◌, ◌-◌, ◌≤◌, Bool, true, false, ◌&&◌, List, [], ◌∷◌, ◌++◌, length, Option, Some, None, refl, ap, subst, arith, inl, inr}
 use Rattle.std.specs.Prelude.{◌==◌, nat_lt, nat_le, ◌≢◌}
 use Rattle.std.proofs.lemmas.Bool.Decides.{nat_tests, eqb_tells}
 use Rattle.rt_catalog.specs.declared.catalog.Catalog.{Catalog}
@@ -52,6 +52,10 @@ by_case w slot false x y f g = g
 pub and_right : (a b : Bool) → (a && b) ≡ true → b ≡ true
 and_right true b h = h
 and_right false b h = absurd (cc)
+
+pub false_of : (b : Bool) → not b ≡ true → b ≡ false
+false_of true e = absurd (cc)
+false_of false e = refl
 
 pub le_from : (n m : ℕ) → nat_le n m ≡ true → n ≤ m
 le_from n m h = grind (arith, nat_tests)

@@ -30,17 +30,11 @@ use Rattle.rt_entry.specs.Messages.{subscribed_message, presence_state}
 use Rattle.rt_entry.specs.Joining.{Checked, channel_of_join, renewal_of}
 use Rattle.rt_entry.specs.Doings.{tell, in_turn, opening_in, is_of_slot, is_on, channels_of, channel_on, track_of, watches, diff_to, diffs, leave_diffs, depart, end_of, end_if_open, close, fail, tell_if, open_parts, has_bindings, present_on, join_result_parts, others, renewal_parts, gets_broadcast, broadcast_part, broadcast_parts, track_by, untrack_part, is_shut, subscriptions, view_of, join_over_former, join_parts, ask_parts, channel_parts, message_parts, frame_parts, gets, change_parts, change_parts_to, change_parts_to_all}
 use Rattle.rt_laws.specs.Openings.{is_there}
-use Rattle.rt_laws.proofs.Shapes.{AreApart, Below, IsMade, option_all, join_made}
-use Rattle.rt_laws.proofs.Turns.{or_second, same_number}
+use Rattle.rt_laws.proofs.Shapes.{AreApart, Below, IsMade, option_all, join_made, same_number}
+use Rattle.rt_laws.proofs.Turns.{or_second}
 use Rattle.rt_laws.proofs.Due.{and_parts}
 use Rattle.rt_laws.proofs.Turning.{Leads, Mild, leads_then, mild_leads, opens_leads, ends_leads}
-
-false_of : (b : Bool) → not b ≡ true → b ≡ false
-false_of true e = absurd (cc)
-false_of false e = refl
-
-pub other_number : (n m : ℕ) → (n ≡ m → ⊥) → (n == m) ≡ false
-other_number n m ne = elim (eqb_tells n m) [ inl t ↦ absurd (ne t.1) | inr t ↦ t.0 ]
+use Rattle.rt_laws.proofs.Untouched.{false_of}
 
 all_flat_of : {A C : Type 0} (B : A → Type 0) (D : C → Type 0) (f : C → List A) (xs : List C) → ((x : C) → D x → AllOf B (f x)) → AllOf D xs
     → AllOf B (flat_map f xs)

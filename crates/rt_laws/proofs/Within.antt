@@ -1,5 +1,5 @@
 -- What steps leave within its limit: the journal's length, and the messages that an outbox holds.
-use Rattle.std.proofs.Common.{◌≡◌, ℕ, zero, suc, ◌+◌, ◌≤◌, false, List, [], ◌∷◌, ◌++◌, length, drop, refl, ap, arith, add-one}
+use Rattle.std.proofs.Common.{◌≡◌, ℕ, zero, suc, ◌+◌, ◌≤◌, false, List, [], ◌∷◌, ◌++◌, length, drop, ap, arith, add-one}
 use Rattle.std.specs.Prelude.{nat_le}
 use Rattle.std.proofs.lemmas.Bool.Decides.{nat_tests}
 use Rattle.std.proofs.lemmas.List.Sums.{sum_by-append}
@@ -11,19 +11,16 @@ use Rattle.rt_entry.specs.declared.answer.Item.TheVariants.{Message, End}
 use Rattle.rt_entry.specs.Machine.{Slot, World, Placed, start, with_slot, with_given, with_cut, outbox, messages_in, is_full_for, run}
 use Rattle.rt_laws.proofs.Good.{with_all}
 use Rattle.rt_laws.proofs.Stepping.{Keeps, one_popped, run_keeps}
+use Rattle.rt_laws.proofs.Lists.{drop_none}
 
 -- what an outbox holds
-
-none_left : (n : ℕ) → let none : List Item = [] in drop n none ≡ none
-none_left zero = refl
-none_left (suc n) = refl
 
 both : (xs ys : List Item) → messages_in (xs ++ ys) ≡ messages_in xs + messages_in ys
 both xs ys = sum_by-append _ xs ys
 
 one_more : (n : ℕ) (xs : List Item) (x : Item) → messages_in (drop n (xs ++ x ∷ [])) ≤ messages_in (drop n xs) + messages_in (x ∷ [])
 one_more zero xs x = let e = both xs (x ∷ []) in omega arith
-one_more (suc n) [] x = let e = ap messages_in (none_left n) in omega arith
+one_more (suc n) [] x = let e = ap messages_in (drop_none {A = Item} n) in omega arith
 one_more (suc n) (y ∷ xs) x = one_more n xs x
 
 one_less : (n : ℕ) (xs : List Item) → messages_in (drop (suc n) xs) ≤ messages_in (drop n xs)

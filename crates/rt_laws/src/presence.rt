@@ -9,7 +9,7 @@ ghost use Rattle.rt_laws.specs.Told.{AnswersAreReadable};
 ghost use Rattle.rt_laws.specs.Views.{StatesAreRead};
 
 /// A client that is told a presence state and then differences holds, up to order, the metas of the state's tracks with each difference's joins added
-/// and its leaves removed.
+/// and its leaves removed, where the tracks' numbers are below 2^64.
 pub fn states_are_read()
     ensures { StatesAreRead }
 {}
@@ -19,8 +19,8 @@ pub fn departures_are_told()
     ensures { (c : CatalogData) (s : SettingsData) → DeparturesAreTold c s }
 {}
 
-/// A member with presence enabled that was told what is present on its topic holds, with what the next input says to it, what is present then, up to
-/// order: for every input but a stop, where the input doesn't let it depart.
+/// In a journal shorter than 2^64, a member with presence enabled that was told what is present on its topic holds, with what the next input says to it,
+/// what is present then, up to order: for every input but a stop, where the input doesn't let it depart.
 pub fn clients_follow()
     ensures { (c : CatalogData) (s : SettingsData) → ClientsFollow c s }
 {}
@@ -31,25 +31,26 @@ pub fn clients_agree()
     ensures { (c : CatalogData) (s : SettingsData) (journal : List InputData) → ClientsAgree c s journal }
 {}
 
-/// So it is at each place of the journal that any steps make.
+/// So it is at each place of the journal that any steps make, where the limit on inputs is below 2^32.
 pub fn taken_clients_agree()
     ensures { (c : CatalogData) (s : SettingsData) → TakenClientsAgree c s }
 {}
 
-/// The same of what a slot was given after any steps: where that is, of the slot's opening, exactly what is due by the inputs so far, it ends with all that
+/// The same of what a slot was given after any steps, with such a limit: where that is, of the slot's opening, exactly what is due by the inputs so far, it ends with all that
 /// the slot was told since the join of a member with presence enabled, spelled; and by these messages a client holds what is present on its topic, whatever
 /// it held before.
 pub fn given_clients_agree()
     ensures { (c : CatalogData) (s : SettingsData) → GivenClientsAgree c s }
 {}
 
-/// Where the catalogue's names are UTF-8 and a journal's changes are those of lines, every message that its inputs answer can be read: its texts are UTF-8,
-/// its numbers are numbers of the grammar, and its payload nests in at most 66 levels.
+/// Where the catalogue's names are UTF-8, the journal is shorter than 2^64 and its changes are those of lines, every message that its inputs answer can be
+/// read: its texts are UTF-8, its numbers are numbers of the grammar, and its payload nests in at most 66 levels.
 pub fn answers_are_readable()
     ensures { (c : CatalogData) (s : SettingsData) → AnswersAreReadable c s }
 {}
 
-/// There a client holds what is present by the very bytes that its slot was given, with whatever reader of its own goes 67 levels deep.
+/// With such names and changes and a limit on inputs below 2^32, a client holds what is present by the very bytes that its slot was given, with whatever
+/// reader of its own goes 67 levels deep.
 pub fn readers_agree()
     ensures { (c : CatalogData) (s : SettingsData) → ReadersAgree c s }
 {}

@@ -39,7 +39,7 @@ pub fn ids_rise()
     ensures told { (c : CatalogData) (s : SettingsData) → ToldIdsRise c s }
 {}
 
-/// What a slot is told goes opening by opening: each begins with its mark and ends with its terminator, and nothing is said between them. What is left open
+/// What a slot, of those below 256, is told goes opening by opening: each begins with its mark and ends with its terminator, and nothing is said between them. What is left open
 /// is what the story has open, and behind a stop that is nothing.
 pub fn openings_are_whole()
     ensures whole { (c : CatalogData) (s : SettingsData) → OpeningsAreWhole c s }

@@ -76,9 +76,6 @@ with_others P f n x h all m = elim (eqb_tells m n) [
   | inr t ↦ let e = t.0 in rw (e, with_at) (all m t.1)
 ]
 
-pub same_number : (n m : ℕ) → (n == m) ≡ true → n ≡ m
-same_number n m e = elim (eqb_tells n m) [ inl t ↦ t.1 | inr t ↦ absurd (let k : true ≡ false = sym e ∙ t.0 in cc) ]
-
 drop_none : (k : ℕ) (xs : List Item) → drop k xs ≡ [] → length xs ≤ k
 drop_none k xs e = let l : length (drop k xs) ≡ 0 = ap length e in omega (arith, length-drop k xs)
 

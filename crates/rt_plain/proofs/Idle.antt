@@ -1,5 +1,5 @@
 -- Where a round does nothing, every worker is at rest.
-use Rattle.std.proofs.Common.{◌≡◌, ◌⊎◌, ℕ, zero, suc, ◌+◌, ◌-◌, ◌<◌, ◌≤◌, Bool, true, false, ◌||◌, not, List, [], ◌∷◌, ◌++◌, length, map, refl, ap, subst, ◌∙◌, arith, inl, inr}
+use Rattle.std.proofs.Common.{◌≡◌, ◌⊎◌, ℕ, zero, suc, ◌+◌, ◌-◌, ◌<◌, ◌≤◌, Bool, true, false, ◌||◌, List, [], ◌∷◌, ◌++◌, length, map, refl, ap, subst, ◌∙◌, arith, inl, inr}
 use Rattle.std.specs.Prelude.{⊤, ◌==◌}
 use Rattle.std.specs.List.{flat_map, list_any, range_with_len}
 use Rattle.std.proofs.lemmas.Bool.Decides.{eqb_tells}
@@ -18,15 +18,13 @@ use Rattle.rt_script.specs.Running.{is_done, every_lane, round, outcomes, does_n
 use Rattle.rt_laws.proofs.Lists.{flat_among}
 use Rattle.rt_laws.proofs.Given.{shown_uncut}
 use Rattle.rt_laws.proofs.Good.{IsGood, good_serves}
-use Rattle.rt_plain.proofs.Calm.{CalmWorld, by_test, pair_of, same_number, has_room}
+use Rattle.rt_plain.proofs.Calm.{CalmWorld, by_test, pair_of, has_room}
+use Rattle.rt_laws.proofs.Shapes.{same_number}
+use Rattle.rt_laws.proofs.Untouched.{false_of}
 
 or_parts : (a b : Bool) → (a || b) ≡ false → (a ≡ false) × (b ≡ false)
 or_parts true b e = absurd (cc)
 or_parts false b e = (refl, e)
-
-false_of : (b : Bool) → not b ≡ true → b ≡ false
-false_of true e = absurd (cc)
-false_of false e = refl
 
 range_among : (k n l : ℕ) → k ≤ l → l < k + n → Among (range_with_len k n) l
 range_among k zero l a b = absurd (omega arith)
