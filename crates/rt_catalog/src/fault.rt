@@ -29,8 +29,10 @@ pub enum Why {
     Limit { n: usize },
 }
 
+/// Why a catalogue is not read.
 #[derive(Clone, Copy, Debug, Drop, PartialEq, Eq, Error)]
 pub enum CatalogFault {
+    /// Memory ran out.
     #[error("out of memory")]
     NoMemory,
     /// The place is a byte of the text, or its length.

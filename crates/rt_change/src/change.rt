@@ -4,8 +4,11 @@ use rt_value::{Cells, Edit, List, Text};
 /// What a change does to rows of its table.
 #[derive(Clone, Copy, Debug, Drop, PartialEq, Eq)]
 pub enum Verb {
+    /// A row is new.
     Insert,
+    /// A row is another than before.
     Update,
+    /// A row is gone.
     Delete,
     /// Empties the table, and is sent to nobody.
     Truncate,
@@ -14,7 +17,9 @@ pub enum Verb {
 /// A change of a table of the catalogue. The cells and the trees are one per column of the table.
 #[derive(Drop)]
 pub struct Change {
+    /// The table's number in the catalogue.
     pub table: u32,
+    /// What it does.
     pub verb: Verb,
     /// Whether the record names its primary key.
     pub has_key: bool,
@@ -26,7 +31,9 @@ pub struct Change {
     pub new: Cells,
     /// What identifies the row as it was before.
     pub old: Cells,
+    /// The values of `new` as the record shows them.
     pub new_trees: List<Option<Json>>,
+    /// The values of `old` as the record shows them.
     pub old_trees: List<Option<Json>>,
     /// What the change does to the rebuilt table.
     pub edit: Edit,
@@ -35,6 +42,7 @@ pub struct Change {
 /// A record bound to the catalogue.
 #[derive(Drop)]
 pub enum Bound {
+    /// The record changes a table.
     Change(Change),
     /// The record changes no table of the catalogue.
     Skip,

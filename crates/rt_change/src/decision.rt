@@ -3,6 +3,7 @@
 pub enum Denial {
     /// The subscription doesn't ask for the event.
     Event,
+    /// The change doesn't pass the subscription's filter.
     Filter,
     /// The row isn't in the table any more.
     RowGone,
@@ -17,10 +18,12 @@ pub enum Denial {
 /// What a subscription gets of a change.
 #[derive(Clone, Copy, Debug, Drop, PartialEq, Eq)]
 pub enum Verdict {
+    /// The change with its values.
     Deliver,
     /// The record names no primary key.
     Error400,
     /// The role may not SELECT the key.
     Error401,
+    /// Nothing, for this reason.
     Denied(Denial),
 }

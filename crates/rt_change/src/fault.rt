@@ -4,6 +4,7 @@ use thiserror::Error;
 /// Why a record doesn't fit the catalogue, or a tree a kind. The first that applies is told.
 #[derive(Debug, Drop, Error)]
 pub enum ChangeFault {
+    /// Memory ran out.
     #[error("out of memory")]
     NoMemory,
     /// The record's primary key isn't the table's.

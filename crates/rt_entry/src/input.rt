@@ -7,25 +7,33 @@ use rt_value::{Bytes, Claims, List};
 pub enum Input {
     /// A socket opened on a slot, with the claims of its key.
     Opened {
+        /// Which slot.
         slot: u32,
+        /// The version of its frames.
         version: Version,
+        /// The claims of the key that it was opened with.
         claims: Claims,
     },
     /// A text frame of a client.
     Frame {
+        /// Which slot sent it.
         slot: u32,
+        /// What it sent.
         bytes: Bytes,
     },
     /// The client is gone.
     Gone {
+        /// Which slot.
         slot: u32,
     },
     /// One batch of the stream, as the changes of its records.
     Poll {
+        /// The changes, in the order of their records.
         changes: List<Change>,
     },
     /// The clock's moment in milliseconds.
     Tick {
+        /// The moment, in milliseconds since 1970.
         moment: u64,
     },
     /// The stream has ended.
@@ -39,9 +47,11 @@ pub enum Step {
     Arrive(Input),
     /// A poll, a stop or a tick goes into the feed or the clock.
     Feed(Input),
-    /// The journal takes the first input of an inlet, of the feed, of the clock.
+    /// The journal takes the first input of a slot's inlet.
     Take { slot: u32 },
+    /// The journal takes the first input of the feed.
     TakeFeed,
+    /// The journal takes the first input of the clock.
     TakeClock,
     /// The next entry owed to a lane goes into it.
     Send { lane: u32 },
@@ -56,6 +66,7 @@ pub enum Step {
 /// The limits of a run: 1 to 16 workers; capacity, lane and inlet from 1 to 4096.
 #[derive(Debug, Drop)]
 pub struct Settings {
+    /// How many workers there are, and so lanes.
     pub workers: u32,
     /// How many messages an outbox holds.
     pub capacity: usize,

@@ -6,7 +6,9 @@ use rt_value::{Claims, List, Shared, Text};
 /// A slot that is open.
 #[derive(Drop)]
 pub struct Opening {
+    /// The version of its frames.
     pub version: Version,
+    /// The claims of the key that it was opened with.
     pub claims: Shared<Claims>,
     /// The moment at which the slot was last heard.
     pub heard: u64,
@@ -15,12 +17,19 @@ pub struct Opening {
 /// An accepted join. A channel is named by its number, the join's in the journal.
 #[derive(Drop)]
 pub struct Channel {
+    /// The join's number in the journal.
     pub number: u32,
+    /// The slot that joined.
     pub slot: u32,
+    /// What it is joined to, with `realtime:`.
     pub topic: Text,
+    /// The join's ref, which its messages carry.
     pub join_ref: Json,
+    /// The number of its claims' role in the catalogue.
     pub role: u32,
+    /// The claims of the join.
     pub claims: Shared<Claims>,
+    /// The bindings of the join, with what they mean.
     pub bindings: List<Subscribed>,
     /// The id of the first binding. The ids run on from there.
     pub first_id: u64,
@@ -37,48 +46,74 @@ pub struct Channel {
 /// A channel that hasn't departed, with the role and the claims that it has now.
 #[derive(Drop)]
 pub struct Member {
+    /// The channel as it was joined.
     pub channel: Channel,
+    /// The number of the claims' role in the catalogue.
     pub role: u32,
+    /// The claims of its last accepted renewal, or of its join.
     pub claims: Shared<Claims>,
 }
 
 /// What a channel tracks on its topic. The reference is the track's number in the journal.
 #[derive(Drop)]
 pub struct Track {
+    /// The number in the journal of the input that tracked.
     pub reference: u32,
+    /// The channel's number.
     pub channel: u32,
+    /// The topic of the channel.
     pub topic: Text,
+    /// The presence key that it stands under.
     pub key: Text,
+    /// The value that is tracked.
     pub tree: Json,
 }
 
 /// What an input does, one part after another.
 #[derive(Drop)]
 pub enum Part {
+    /// A slot opens.
     Opens {
+        /// Which slot.
         slot: u32,
+        /// With what.
         opening: Opening,
     },
+    /// A slot is shut.
     Ends {
+        /// Which slot.
         slot: u32,
+        /// For which reason.
         name: EndName,
     },
+    /// A slot is told a message.
     Tells {
+        /// Which slot.
         slot: u32,
+        /// What it is told.
         message: Message,
     },
+    /// A channel is joined.
     Joins(Channel),
     /// A channel has a new role and new claims from here on.
     Renews {
+        /// The channel's number.
         channel: u32,
+        /// The number of the claims' role in the catalogue.
         role: u32,
+        /// The claims from here on.
         claims: Shared<Claims>,
     },
+    /// A channel tracks a value, in the place of what it tracked on the topic.
     Tracks(Track),
+    /// A channel tracks nothing from here on.
     Untracks {
+        /// The channel's number.
         channel: u32,
     },
+    /// A channel is no longer joined.
     Departs {
+        /// The channel's number.
         channel: u32,
     },
 }

@@ -11,10 +11,13 @@ use thiserror::Error;
 /// Why not all of a source was read.
 #[derive(Debug, Drop, Error)]
 pub enum ReadAllFault {
+    /// No memory for the bytes.
     #[error("out of memory")]
     NoMemory,
+    /// The source failed, and its count of faults rose.
     #[error("read fault")]
     ReadFault,
+    /// The source had more bytes than `limit`.
     #[error("more than {limit} bytes")]
     TooLong { limit: usize },
 }
