@@ -6,16 +6,23 @@ use rt_value::Text;
 pub struct Binding {
     /// The event's word.
     pub wanted: Text,
+    /// The schema that the table is of.
     pub schema: Text,
+    /// The table's name; none for every table of the schema.
     pub table: Option<Text>,
+    /// The filter as it is written.
     pub filter: Option<Text>,
 }
 
 /// A binding with what it means on the catalogue. No table means every table of the schema.
 #[derive(Debug, Drop)]
 pub struct Subscribed {
+    /// What the client asked for.
     pub binding: Binding,
+    /// The events that are told.
     pub wanted: Wanted,
+    /// The table's number in the catalogue.
     pub table: Option<u32>,
+    /// The test that a change has to pass.
     pub test: Option<Test>,
 }

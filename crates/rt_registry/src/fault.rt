@@ -3,22 +3,28 @@ use thiserror::Error;
 /// Why a binding is refused. The first that applies is told.
 #[derive(Clone, Copy, Debug, Drop, PartialEq, Eq, Error)]
 pub enum BindingWhy {
+    /// The word is no event.
     #[error("event")]
     Event,
     /// The schema has no such table, or no table at all.
     #[error("unknown table")]
     Table,
+    /// There is a filter and no table.
     #[error("filter without table")]
     FilterNoTable,
+    /// The text is no filter.
     #[error("bad filter")]
     Filter,
     /// No such column, or one that the role may not SELECT.
     #[error("column")]
     Column,
+    /// The column's kind is opaque.
     #[error("opaque column")]
     Opaque,
+    /// The filter has more than 100 values.
     #[error("too many values")]
     TooMany,
+    /// A value can't be read in the column's kind.
     #[error("bad value")]
     Value,
 }
@@ -26,6 +32,7 @@ pub enum BindingWhy {
 /// Why a channel's bindings are refused. The first that applies is told.
 #[derive(Clone, Copy, Debug, Drop, PartialEq, Eq, Error)]
 pub enum RegistryFault {
+    /// Memory ran out.
     #[error("out of memory")]
     NoMemory,
     /// The catalogue has no role of the claims' name.
