@@ -1,4 +1,5 @@
 ghost use Rattle.std.specs.Prelude.{◌≡◌, ◌≢◌, map, List, ℕ, IfErr, IfOk, OnOk};
+ghost use Rattle.std.specs.IoError.{error_kind};
 ghost use Rattle.rt_first.specs.Output.{given};
 ghost use Rattle.rt_first.specs.Printed.{printed};
 ghost use Rattle.realtime_replay.specs.Answers.{HasNoCatalogue, IsCalm, IsComplete, Ran, RunTells, Said, Tells, flow, line_of};
@@ -12,13 +13,15 @@ use crate::fault::RunFault;
 use crate::messages::{change, join_reply, subscribed};
 use crate::printing::print_slot;
 use crate::script::read_script;
-use crate::status::{Status, status_of};
+use crate::status::{Status, status_of, status_without_words};
 use crate::words::command_of;
 use rt_first::laws::given_is_due;
 use rt_first::{Catalogue, Script};
 use rt_io::{Sink, Source, read_all, write_all};
 use rt_value::Bytes;
 use std::alloc::{AllocError, Global};
+use std::io;
+use std::io::ErrorKind;
 use std::thread::Threads;
 
 /// The most bytes of a source.
@@ -132,6 +135,18 @@ fn say<E: Sink>(err: &mut E, status: Status)
     ensures { Said (flow (E.held err.old) (E.held err.new) (E.faults err.old) (E.faults err.new)) (line_of status) }
 {
     let _ = write_all(err, status.line().as_bytes());
+}
+
+/// Ends a program whose command line gave an error in place of its words: `Usage` where one of them isn't UTF-8, else
+/// `NoMemory`. `err` is given the status's line.
+pub fn refuse<E: Sink>(err: &mut E, error: &io::Error) -> Status
+    ensures usage { error_kind error.now ≡ ErrorKind.InvalidData → result ≡ Status.Usage }
+    ensures memory { error_kind error.now ≢ ErrorKind.InvalidData → result ≡ Status.NoMemory }
+    ensures said { Said (flow (E.held err.old) (E.held err.new) (E.faults err.old) (E.faults err.new)) (line_of result) }
+{
+    let status = status_without_words(error);
+    say(err, status);
+    status
 }
 
 /// Does what the words say: `replay CATALOGUE SCRIPT` runs a script over a catalogue and writes to `out` what each slot was
