@@ -75,8 +75,8 @@ fn catalogue_of(alloc: Global, words: &[Text]) -> Result<Catalogue, FormFault>
     }
 }
 
-/// The catalogue that a text is. `NotBuilt` where it isn't three statements of the built form: a table of two columns
-/// with one key column, a role, and the grant to it.
+/// The catalogue that a text is. `NotBuilt` where it isn't three statements of the built form: a
+/// table of two columns with one key column, a role, and the grant to it.
 pub fn read_catalogue(alloc: Global, bytes: &[u8]) -> Result<Catalogue, FormFault>
     ensures found { IfOk result (λ catalogue. IsCatalogue bytes.now catalogue) }
     ensures only { (catalogue : c.Catalogue) → IsCatalogue bytes.now catalogue

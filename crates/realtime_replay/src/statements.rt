@@ -1,8 +1,12 @@
-//! The words of a catalogue's statements, read from the first on. What reads a part answers it and the words behind it.
-ghost use Rattle.std.specs.Prelude.{◌≡◌, ◌≢◌, ◌↔◌, ◌∷◌, ℕ, Bool, List, codes, not, true, IsTrue, MatchOption};
+//! The words of a catalogue's statements, read from the first on. What reads a part answers it and
+//! the words behind it.
+ghost use Rattle.std.specs.Prelude.{◌≡◌, ◌≢◌, ◌↔◌, ◌∷◌, ℕ, Bool, List, codes, not, true, IsTrue};
+ghost use Rattle.std.specs.Prelude.{MatchOption};
 ghost use Rattle.rt_first.specs.Lexing as lexing;
 ghost use Rattle.rt_first.specs.Messages.{shown_type};
-ghost use Rattle.rt_first.specs.Statements.{AreColumns, AreNamed, IsRole, column_words, columns_words, grant_words, key_words, role_words, table_words};
+ghost use Rattle.rt_first.specs.Statements.{AreColumns, AreNamed, IsRole, column_words};
+ghost use Rattle.rt_first.specs.Statements.{columns_words, grant_words, key_words, role_words};
+ghost use Rattle.rt_first.specs.Statements.{table_words};
 ghost use Rattle.rt_first.specs.declared.catalogue.ColumnType as t;
 
 use crate::lexing::is_name;
@@ -17,7 +21,8 @@ struct ColumnWords<'a> {
     is_key: bool,
 }
 
-/// The two columns of a table, in the order of the statement. The first is the key where the second isn't.
+/// The two columns of a table, in the order of the statement. The first is the key where the second
+/// isn't.
 #[derive(Clone, Copy)]
 pub struct TwoColumns<'a> {
     pub first: &'a Text,
@@ -49,7 +54,8 @@ fn is_word(word: &Text, wanted: &str) -> bool
 
 /// The words behind the first one, which has to be this one.
 fn first_word<'a>(words: &'a [Text], wanted: &str) -> Option<&'a [Text]>
-    ensures { MatchOption result ((rest : List (List ℕ)) → words.now ≡ wanted.now ∷ rest → ⊥) (λ rest. words.now ≡ wanted.now ∷ rest.now) }
+    ensures { MatchOption result ((rest : List (List ℕ)) → words.now ≡ wanted.now ∷ rest → ⊥)
+        (λ rest. words.now ≡ wanted.now ∷ rest.now) }
 {
     match words {
         [first, rest @ ..] => {
@@ -75,7 +81,8 @@ fn two_words<'a>(words: &'a [Text], one: &str, two: &str) -> Option<&'a [Text]>
 
 /// The first word, which has to be a name.
 fn first_name(words: &[Text]) -> Option<(&Text, &[Text])>
-    ensures { MatchOption result ((name : List ℕ) (rest : List (List ℕ)) → lexing.is_name name ≡ true → words.now ≡ name ∷ rest → ⊥)
+    ensures { MatchOption result ((name : List ℕ) (rest : List (List ℕ))
+        → lexing.is_name name ≡ true → words.now ≡ name ∷ rest → ⊥)
         (λ found. (lexing.is_name found.0.now ≡ true) × (words.now ≡ found.0.now ∷ found.1.now)) }
 {
     match words {
@@ -91,7 +98,9 @@ fn first_name(words: &[Text]) -> Option<(&Text, &[Text])>
 }
 
 fn column_type_of(word: &str) -> Option<ColumnType>
-    ensures { MatchOption result ((column_type : t.ColumnType) → word.now ≡ shown_type column_type → ⊥) (λ column_type. word.now ≡ shown_type column_type) }
+    ensures { MatchOption result
+        ((column_type : t.ColumnType) → word.now ≡ shown_type column_type → ⊥)
+        (λ column_type. word.now ≡ shown_type column_type) }
 {
     match word {
         "int4" => Some(ColumnType::Int4),
@@ -102,7 +111,8 @@ fn column_type_of(word: &str) -> Option<ColumnType>
 
 /// The type that the first word names.
 fn first_type(words: &[Text]) -> Option<(ColumnType, &[Text])>
-    ensures { MatchOption result ((column_type : t.ColumnType) (rest : List (List ℕ)) → words.now ≡ shown_type column_type ∷ rest → ⊥)
+    ensures { MatchOption result ((column_type : t.ColumnType) (rest : List (List ℕ))
+        → words.now ≡ shown_type column_type ∷ rest → ⊥)
         (λ found. words.now ≡ shown_type found.0 ∷ found.1.now) }
 {
     match words {
@@ -117,7 +127,8 @@ fn first_type(words: &[Text]) -> Option<(ColumnType, &[Text])>
 /// Whether the column is the key, up to the sign that ends it.
 fn key_and_rest<'a>(words: &'a [Text], end: &str) -> Option<(bool, &'a [Text])>
     requires { end.now ≢ codes "primary" }
-    ensures { MatchOption result ((is_key : Bool) (rest : List (List ℕ)) → words.now ≡ key_words is_key (end.now ∷ rest) → ⊥)
+    ensures { MatchOption result ((is_key : Bool) (rest : List (List ℕ))
+        → words.now ≡ key_words is_key (end.now ∷ rest) → ⊥)
         (λ found. words.now ≡ key_words found.0 (end.now ∷ found.1.now)) }
 {
     match two_words(words, "primary", "key") {
@@ -196,8 +207,9 @@ fn two_columns(words: &[Text]) -> Option<(TwoColumns<'_>, &[Text])>
 /// `create table NAME (NAME TYPE, NAME TYPE);`: the table's name and its two columns.
 fn table(words: &[Text]) -> Option<(TableWords<'_>, &[Text])>
     ensures { MatchOption result
-        ((table first : List ℕ) (first_type : t.ColumnType) (second : List ℕ) (second_type : t.ColumnType)
-        (is_key : Bool) (rest : List (List ℕ)) → lexing.is_name table ≡ true → AreColumns first second
+        ((table first : List ℕ) (first_type : t.ColumnType)
+        (second : List ℕ) (second_type : t.ColumnType) (is_key : Bool) (rest : List (List ℕ))
+        → lexing.is_name table ≡ true → AreColumns first second
         → words.now ≡ table_words table first first_type second second_type is_key rest → ⊥)
         (λ found. let n = found.0.name in let c = found.0.columns in (lexing.is_name n.now ≡ true)
         × AreColumns c.first.now c.second.now
@@ -214,7 +226,8 @@ fn table(words: &[Text]) -> Option<(TableWords<'_>, &[Text])>
 
 /// `create role NAME;`: the role's name.
 fn role(words: &[Text]) -> Option<(&Text, &[Text])>
-    ensures { MatchOption result ((role : List ℕ) (rest : List (List ℕ)) → IsRole role → words.now ≡ role_words role rest → ⊥)
+    ensures { MatchOption result ((role : List ℕ) (rest : List (List ℕ)) → IsRole role
+        → words.now ≡ role_words role rest → ⊥)
         (λ found. IsRole found.0.now × (words.now ≡ role_words found.0.now found.1.now)) }
 {
     let behind = two_words(words, "create", "role")?;
@@ -229,7 +242,8 @@ fn role(words: &[Text]) -> Option<(&Text, &[Text])>
 
 /// `grant select on NAME to NAME;`, with these names.
 fn grant<'a>(words: &'a [Text], table: &str, role: &str) -> Option<&'a [Text]>
-    ensures { MatchOption result ((rest : List (List ℕ)) → words.now ≡ grant_words table.now role.now rest → ⊥)
+    ensures { MatchOption result ((rest : List (List ℕ))
+        → words.now ≡ grant_words table.now role.now rest → ⊥)
         (λ rest. words.now ≡ grant_words table.now role.now rest.now) }
 {
     let behind = two_words(words, "grant", "select")?;
@@ -242,8 +256,8 @@ fn grant<'a>(words: &'a [Text], table: &str, role: &str) -> Option<&'a [Text]>
 /// The names in the three statements.
 pub fn names_in(words: &[Text]) -> Option<Names<'_>>
     ensures { MatchOption result
-        ((table first : List ℕ) (first_type : t.ColumnType) (second : List ℕ) (second_type : t.ColumnType)
-        (is_key : Bool) (role : List ℕ)
+        ((table first : List ℕ) (first_type : t.ColumnType)
+        (second : List ℕ) (second_type : t.ColumnType) (is_key : Bool) (role : List ℕ)
         → AreNamed words.now table first first_type second second_type is_key role → ⊥)
         (λ found. let c = found.table.columns in AreNamed words.now found.table.name.now
         c.first.now c.first_type c.second.now c.second_type c.second_is_key found.role.now) }

@@ -38,8 +38,8 @@ pub fn status_of(fault: RunFault) -> Status
     }
 }
 
-/// The status of a program whose command line gave this error in place of its words. A word that isn't UTF-8 is one of no
-/// command; all else is want of memory.
+/// The status of a program whose command line gave this error in place of its words. A word that
+/// isn't UTF-8 is one of no command; all else is want of memory.
 pub fn status_without_words(error: &Error) -> Status
     ensures usage { error_kind error.now ≡ ErrorKind.InvalidData → result ≡ Status.Usage }
     ensures memory { error_kind error.now ≢ ErrorKind.InvalidData → result ≡ Status.NoMemory }
