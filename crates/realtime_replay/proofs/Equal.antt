@@ -21,7 +21,8 @@ use Rattle.rt_first.specs.declared.script.Join.{Join}
 use Rattle.rt_first.specs.declared.script.Script.{Script}
 
 pub same_members : (a b : List Member) → j.Object a ≡ j.Object b → a ≡ b
-same_members a b e = let layer : Json-F.Object a ≡ Json-F.Object b = sym (outs-Object a) ∙ ap out-Json e ∙ outs-Object b in cc
+same_members a b e = let layer : Json-F.Object a ≡ Json-F.Object b = sym (outs-Object a) ∙ ap out-Json e
+    ∙ outs-Object b in cc
 
 pub same_items : (a b : List Json) → j.List a ≡ j.List b → a ≡ b
 same_items a b e = let layer : Json-F.List a ≡ Json-F.List b = sym (outs-List a) ∙ ap out-Json e ∙ outs-List b in cc
@@ -34,7 +35,8 @@ pub items_twice : (tree : Json) (a b : List Json) → tree ≡ j.List a → tree
 items_twice tree a b e f = same_items a b (sym e ∙ f)
 
 -- the first member taken off, twice
-pub first_twice : (name : List ℕ) (members r s : List Member) (a b : Json) → members ≡ field name a ∷ r → members ≡ field name b ∷ s → (a ≡ b) × (r ≡ s)
+pub first_twice : (name : List ℕ) (members r s : List Member) (a b : Json) → members ≡ field name a ∷ r
+    → members ≡ field name b ∷ s → (a ≡ b) × (r ≡ s)
 first_twice name members r s a b e f =
     let both : field name a ∷ r ≡ field name b ∷ s = sym e ∙ f in
     let head : field name a ≡ field name b = cc in
@@ -59,7 +61,8 @@ pub untrue : {A : Type 0} → false ≡ true → A
 untrue e = absurd (let bad : false ≡ true = e in cc)
 
 pub not_empty : {A : Type 0} (xs : List A) (b : Bool) → b ≡ (length xs == 0) → b ≡ false → xs ≡ [] → ⊥
-not_empty xs b is unequal e = let t : b ≡ true = is ∙ ap (λ ys. length ys == 0) e in let bad : true ≡ false = sym t ∙ unequal in cc
+not_empty xs b is unequal e = let t : b ≡ true = is ∙ ap (λ ys. length ys == 0) e in
+    let bad : true ≡ false = sym t ∙ unequal in cc
 
 pub one_head : {A : Type 0} {x y : A} → x ∷ [] ≡ y ∷ [] → x ≡ y
 one_head e = cc
@@ -68,7 +71,8 @@ pub two_heads : {A : Type 0} {a b x y : A} → a ∷ b ∷ [] ≡ x ∷ y ∷ []
 two_heads e = (cc, cc)
 
 -- two members of an object, twice
-pub two_twice : (tree : Json) (one two : List ℕ) (a b x y : Json) → tree ≡ j.Object (field one a ∷ field two b ∷ []) → tree ≡ j.Object (field one x ∷ field two y ∷ [])
+pub two_twice : (tree : Json) (one two : List ℕ) (a b x y : Json) → tree ≡ j.Object (field one a ∷ field two b ∷ [])
+    → tree ≡ j.Object (field one x ∷ field two y ∷ [])
     → (a ≡ x) × (b ≡ y)
 two_twice tree one two a b x y e f =
     let both = members_twice tree _ _ e f in
@@ -76,8 +80,10 @@ two_twice tree one two a b x y e f =
     let second = first_twice two _ _ _ b y refl first.1 in
     (first.0, second.0)
 
-pub two_equal : (one two : List ℕ) (a b x y : Json) → a ≡ x → b ≡ y → j.Object (field one a ∷ field two b ∷ []) ≡ j.Object (field one x ∷ field two y ∷ [])
-two_equal one two a b x y e f = ap (λ v. j.Object (field one v ∷ field two b ∷ [])) e ∙ ap (λ v. j.Object (field one x ∷ field two v ∷ [])) f
+pub two_equal : (one two : List ℕ) (a b x y : Json) → a ≡ x → b ≡ y → j.Object
+    (field one a ∷ field two b ∷ []) ≡ j.Object (field one x ∷ field two y ∷ [])
+two_equal one two a b x y e f = ap (λ v. j.Object (field one v ∷ field two b ∷ [])) e
+    ∙ ap (λ v. j.Object (field one x ∷ field two v ∷ [])) f
 
 pub empty_of : {A : Type 0} (xs : List A) (b : Bool) → b ≡ (length xs == 0) → b ≡ true → xs ≡ []
 empty_of xs b is e = empty_list xs (eqb-true (length xs) 0 (sym is ∙ e))
@@ -90,7 +96,8 @@ behind_three e = cc
 
 -- three members of an object, twice
 pub three_twice : (one two three : List ℕ) (a b c x y z : Json)
-    → j.Object (field one a ∷ field two b ∷ field three c ∷ []) ≡ j.Object (field one x ∷ field two y ∷ field three z ∷ []) → (a ≡ x) × (b ≡ y) × (c ≡ z)
+    → j.Object (field one a ∷ field two b ∷ field three c ∷ []) ≡ j.Object
+        (field one x ∷ field two y ∷ field three z ∷ []) → (a ≡ x) × (b ≡ y) × (c ≡ z)
 three_twice one two three a b c x y z e =
     let first = first_twice one _ _ _ a x refl (same_members _ _ e) in
     let second = first_twice two _ _ _ b y refl first.1 in
@@ -123,9 +130,11 @@ pub insert_once : {table : List ℕ} {first second key : Column} {tree a b x y :
 insert_once {table} {first} {second} {key} {tree} {a} {b} {x} {y} g h =
     let parts = insert_twice table _ _ _ _ (sym g.is ∙ h.is) in
     let both = two_heads (same_items _ _ (sym g.fields_are.is ∙ parts.0 ∙ h.fields_are.is)) in
-    (field_once both.0 g.fields_are.first_field h.fields_are.first_field, field_once both.1 g.fields_are.second_field h.fields_are.second_field)
+    let one = field_once both.0 g.fields_are.first_field h.fields_are.first_field in
+    (one, field_once both.1 g.fields_are.second_field h.fields_are.second_field)
 
-pub row_once : {table : List ℕ} {first second key : Column} {tree : Json} {r s : List Json} → IsRow table first second key tree r → IsRow table first second key tree s → r ≡ s
+pub row_once : {table : List ℕ} {first second key : Column} {tree : Json} {r s : List Json}
+    → IsRow table first second key tree r → IsRow table first second key tree s → r ≡ s
 row_once g h =
     let same = insert_once g.inserts h.inserts in
     g.values ∙ ap (λ v. v ∷ g.two ∷ []) same.0 ∙ ap (λ v. h.one ∷ v ∷ []) same.1 ∙ sym h.values
@@ -159,7 +168,8 @@ same_script f g a b c =
 pub same_some : {A : Type 0} {a b : A} → Some a ≡ Some b → a ≡ b
 same_some e = cc
 
-pub row_line_same : (t u : List ℕ) (a b c x y z : Column) (line : List ℕ) (row : List Json) → t ≡ u → a ≡ x → b ≡ y → c ≡ z → IsRowLine u x y z line row → IsRowLine t a b c line row
+pub row_line_same : (t u : List ℕ) (a b c x y z : Column) (line : List ℕ) (row : List Json) → t ≡ u → a ≡ x → b ≡ y
+    → c ≡ z → IsRowLine u x y z line row → IsRowLine t a b c line row
 row_line_same t u a b c x y z line row e f g h r =
     let P1 : List ℕ → Type 0 = λ v. IsRowLine v x y z line row in
     let P2 : Column → Type 0 = λ v. IsRowLine t v y z line row in
@@ -167,7 +177,8 @@ row_line_same t u a b c x y z line row e f g h r =
     let P4 : Column → Type 0 = λ v. IsRowLine t a b v line row in
     subst P4 (sym h) (subst P3 (sym g) (subst P2 (sym f) (subst P1 (sym e) r)))
 
-pub said_same : (k : Catalogue) (a w : ℕ) (b c d x y z : List ℕ) (s : Script) → a ≡ w → b ≡ x → c ≡ y → d ≡ z → AreSaid k w x y z s → AreSaid k a b c d s
+pub said_same : (k : Catalogue) (a w : ℕ) (b c d x y z : List ℕ) (s : Script) → a ≡ w → b ≡ x → c ≡ y → d ≡ z
+    → AreSaid k w x y z s → AreSaid k a b c d s
 said_same k a w b c d x y z s e f g h r =
     let P1 : ℕ → Type 0 = λ v. AreSaid k v x y z s in
     let P2 : List ℕ → Type 0 = λ v. AreSaid k a v y z s in

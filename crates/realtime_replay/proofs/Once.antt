@@ -2,7 +2,8 @@
 use Rattle.std.proofs.Common.{◌≡◌, ◌≢◌, ℕ, Bool, true, false, List, [], ◌∷◌, codes, refl, ap, sym, ◌∙◌, arith}
 use Rattle.std.specs.Prelude.{slice_index}
 use Rattle.rt_first.specs.Messages.{shown_type}
-use Rattle.rt_first.specs.Statements.{AreNamed, column_words, columns_words, grant_words, key_words, role_words, table_words}
+use Rattle.rt_first.specs.Statements.{AreNamed, column_words, columns_words, grant_words, key_words, role_words}
+use Rattle.rt_first.specs.Statements.{table_words}
 use Rattle.rt_first.specs.declared.catalogue.ColumnType.{ColumnType}
 use Rattle.rt_first.specs.declared.catalogue.ColumnType.TheVariants as t
 use Rattle.rt_first.specs.declared.catalogue.Column.{Column}
@@ -31,13 +32,15 @@ shown_once t.Int4 t.Text e = absurd (let f : 105 ≡ 116 = ap (λ l. slice_index
 shown_once t.Text t.Int4 e = absurd (let f : 116 ≡ 105 = ap (λ l. slice_index l 0) e in omega arith)
 shown_once t.Text t.Text e = refl
 
-pub key_once : (e : List ℕ) (k l : Bool) (r s : List (List ℕ)) → e ≢ codes "primary" → key_words k (e ∷ r) ≡ key_words l (e ∷ s) → (k ≡ l) × (r ≡ s)
+pub key_once : (e : List ℕ) (k l : Bool) (r s : List (List ℕ)) → e ≢ codes "primary" → key_words k (e ∷ r) ≡ key_words l
+    (e ∷ s) → (k ≡ l) × (r ≡ s)
 key_once e true true r s n h = (refl, (cons_twice refl (cons_twice refl (cons_twice refl h).1).1).1)
 key_once e true false r s n h = absurd (n (sym (cons_twice refl h).0))
 key_once e false true r s n h = absurd (n (cons_twice refl h).0)
 key_once e false false r s n h = (refl, (cons_twice refl h).1)
 
-pub column_once : (e : List ℕ) {words r q : List (List ℕ)} {a b : List ℕ} {s t : ColumnType} {k l : Bool} → e ≢ codes "primary"
+pub column_once : (e : List ℕ) {words r q : List (List ℕ)} {a b : List ℕ} {s t : ColumnType} {k l : Bool}
+    → e ≢ codes "primary"
     → words ≡ column_words a s k (e ∷ r) → words ≡ column_words b t l (e ∷ q) → (a ≡ b) × (s ≡ t) × (k ≡ l) × (r ≡ q)
 column_once e {words} {r} {q} {a} {b} {s} {t} {k} {l} n g h =
     let one = cons_twice g h in
@@ -46,7 +49,8 @@ column_once e {words} {r} {q} {a} {b} {s} {t} {k} {l} n g h =
     (one.0, shown_once s t two.0, three.0, three.1)
 
 pub columns_once : {words r q : List (List ℕ)} {a b x y : List ℕ} {s t u v : ColumnType} {k l : Bool}
-    → words ≡ columns_words a s b t k r → words ≡ columns_words x u y v l q → (a ≡ x) × (s ≡ u) × (b ≡ y) × (t ≡ v) × (k ≡ l) × (r ≡ q)
+    → words ≡ columns_words a s b t k r → words ≡ columns_words x u y v l q → (a ≡ x) × (s ≡ u) × (b ≡ y) × (t ≡ v)
+        × (k ≡ l) × (r ≡ q)
 columns_once {words} {r} {q} {a} {b} {x} {y} {s} {t} {u} {v} {k} {l} g h =
     let one = column_once (codes ",") no_comma g h in
     let two = column_once (codes ")") no_end refl one.3 in
@@ -60,7 +64,8 @@ table_once {words} {r} {q} {m} {n} {a} {b} {x} {y} {s} {t} {u} {v} {k} {l} g h =
     let two = columns_once refl (cons_twice refl one.1).1 in
     (one.0, two.0, two.1, two.2, two.3, two.4, (cons_twice refl two.5).1)
 
-pub role_once : {words r q : List (List ℕ)} {a b : List ℕ} → words ≡ role_words a r → words ≡ role_words b q → (a ≡ b) × (r ≡ q)
+pub role_once : {words r q : List (List ℕ)} {a b : List ℕ} → words ≡ role_words a r → words ≡ role_words b q → (a ≡ b)
+    × (r ≡ q)
 role_once g h =
     let one = cons_twice refl (cons_twice refl (cons_twice g h).1).1 in
     (one.0, (cons_twice refl one.1).1)
@@ -68,10 +73,12 @@ role_once g h =
 pub two_twice : {words r s : List (List ℕ)} {a b x y : List ℕ} → words ≡ a ∷ b ∷ r → words ≡ x ∷ y ∷ s → r ≡ s
 two_twice e f = (cons_twice refl (cons_twice e f).1).1
 
-pub grant_once : {words r q : List (List ℕ)} {a b x y : List ℕ} → words ≡ grant_words a b r → words ≡ grant_words x y q → r ≡ q
+pub grant_once : {words r q : List (List ℕ)} {a b x y : List ℕ} → words ≡ grant_words a b r → words ≡ grant_words x y q
+    → r ≡ q
 grant_once g h = let rest = two_twice refl (two_twice refl (two_twice g h)) in (cons_twice refl rest).1
 
-pub grant_of : {words r : List (List ℕ)} {a b x y : List ℕ} → x ≡ a → y ≡ b → words ≡ grant_words a b r → words ≡ grant_words x y r
+pub grant_of : {words r : List (List ℕ)} {a b x y : List ℕ} → x ≡ a → y ≡ b → words ≡ grant_words a b r
+    → words ≡ grant_words x y r
 grant_of e f g = rw (e, f) g
 
 pub named_once : {words : List (List ℕ)} {m n a b x y v w : List ℕ} {s t p q : ColumnType} {k l : Bool}
@@ -98,7 +105,8 @@ same_table a b e f g =
     let three : Q ≡ b = ap (λ k. record { name = b.name; columns = b.columns; key = k }) g in
     one ∙ two ∙ three
 
-pub same_catalogue : (c d : Catalogue) → c.table.name ≡ d.table.name → c.table.columns ≡ d.table.columns → c.table.key ≡ d.table.key → c.role ≡ d.role → c ≡ d
+pub same_catalogue : (c d : Catalogue) → c.table.name ≡ d.table.name → c.table.columns ≡ d.table.columns
+    → c.table.key ≡ d.table.key → c.role ≡ d.role → c ≡ d
 same_catalogue c d e f g h =
     let P : Catalogue = record { table = d.table; role = c.role } in
     let one : c ≡ P = ap (λ t. record { table = t; role = c.role }) (same_table c.table d.table e f g) in

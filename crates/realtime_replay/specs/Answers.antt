@@ -1,5 +1,6 @@
--- What each answer of the program tells of its words, of the two sources and of the output. For the first that applies, in this order: the words,
--- reading the catalogue, the catalogue, reading the script, the script, the writing. Want of memory alone may come in place of any.
+-- What each answer of the program tells of its words, of the two sources and of the output. For the first that applies,
+-- in this order: the words, reading the catalogue, the catalogue, reading the script, the script, the writing. Want of
+-- memory alone may come in place of any.
 use Rattle.std.specs.Prelude.{◌≡◌, ◌≢◌, ◌⊎◌, ℕ, ◌<◌, ◌≤◌, List, [], codes, length, Option, Some, IfSome}
 use Rattle.rt_io.specs.Streams.{Rose, Puts}
 use Rattle.rt_io.specs.Whole.{ReadsAll, PutsFront}
@@ -17,7 +18,8 @@ use Rattle.realtime_replay.specs.declared.words.Command.TheVariants.{Replay}
 use Rattle.realtime_replay.specs.declared.status.Status.{Status}
 use Rattle.realtime_replay.specs.declared.status.Status.TheVariants as s
 
--- A source or a sink in a call: what it had left, or had taken, at the call and at the return, and how often it had failed.
+-- A source or a sink in a call: what it had left, or had taken, at the call and at the return, and how often it had
+-- failed.
 pub record Flow : Type 0 where
   pub before : Option (List ℕ)
   pub after : Option (List ℕ)
@@ -25,7 +27,8 @@ pub record Flow : Type 0 where
   pub failed_after : ℕ
 
 abbrev pub flow : Option (List ℕ) → Option (List ℕ) → ℕ → ℕ → Flow
-flow before after failed failed_after = record { before = before; after = after; failed = failed; failed_after = failed_after }
+flow before after failed failed_after =
+    record { before = before; after = after; failed = failed; failed_after = failed_after }
 
 abbrev pub HasFailed : Flow → Type 0
 HasFailed f = Rose f.failed f.failed_after
@@ -102,7 +105,8 @@ RunTells catalogue script out s.ReadFault = Befell HasFailed catalogue script ×
 RunTells catalogue script out s.WriteFault = RanInPart catalogue script out
 RunTells catalogue script out s.NoMemory = IsUntouched out
 RunTells catalogue script out s.TooLong = Befell IsTooLong catalogue script × IsUntouched out
-RunTells catalogue script out s.NotBuilt = ((HasNoCatalogue catalogue × IsUntouched script) ⊎ HasNoScript catalogue script) × IsUntouched out
+RunTells catalogue script out s.NotBuilt =
+    ((HasNoCatalogue catalogue × IsUntouched script) ⊎ HasNoScript catalogue script) × IsUntouched out
 
 pub record AllUntouched (catalogue script out : Flow) : Type 0 where
   pub catalogue_is : IsUntouched catalogue
@@ -113,8 +117,10 @@ pub record AllUntouched (catalogue script out : Flow) : Type 0 where
 pub data Tells (words : List (List ℕ)) (catalogue script out : Flow) : Status → Type 0 where
   no_command : NoCommand words → AllUntouched catalogue script out → Tells words catalogue script out s.Usage
   -- a command that isn't built
-  not_built : (command : Command) → IsCommand words command → command ≢ Replay → AllUntouched catalogue script out → Tells words catalogue script out s.NotBuilt
-  runs : {status : Status} → IsCommand words Replay → RunTells catalogue script out status → Tells words catalogue script out status
+  not_built : (command : Command) → IsCommand words command → command ≢ Replay → AllUntouched catalogue script out
+      → Tells words catalogue script out s.NotBuilt
+  runs : {status : Status} → IsCommand words Replay → RunTells catalogue script out status
+      → Tells words catalogue script out status
 
 -- Both texts are known and not too long, and no source and no sink failed in the call.
 pub record IsCalm (catalogue script out : Flow) (text lines : List ℕ) : Type 0 where

@@ -18,9 +18,11 @@ abbrev pub IsOneWord : List ℕ → List (List ℕ) → Type 0
 IsOneWord name words = (first : List ℕ) × IsPlace first × (words ≡ name ∷ first ∷ [])
 
 abbrev pub IsTwoWords : List ℕ → List (List ℕ) → Type 0
-IsTwoWords name words = (first : List ℕ) × (second : List ℕ) × IsPlace first × IsPlace second × (words ≡ name ∷ first ∷ second ∷ [])
+IsTwoWords name words = (first : List ℕ) × (second : List ℕ) × IsPlace first × IsPlace second
+    × (words ≡ name ∷ first ∷ second ∷ [])
 
--- `replay CATALOGUE SCRIPT`, `audit CATALOGUE SCRIPT`, `check CATALOGUE`, and `gen N` with the digits of a number below 2 ^ 32
+-- `replay CATALOGUE SCRIPT`, `audit CATALOGUE SCRIPT`, `check CATALOGUE`, and `gen N` with the digits of a number below
+-- 2 ^ 32
 abbrev pub IsCommand : List (List ℕ) → Command → Type 0
 IsCommand words Replay = IsTwoWords (codes "replay") words
 IsCommand words Audit = IsTwoWords (codes "audit") words

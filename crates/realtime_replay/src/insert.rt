@@ -1,8 +1,11 @@
-ghost use Rattle.std.specs.Prelude.{◌≡◌, ◌↔◌, ◌∷◌, [], ℕ, true, List, Some, slice_get, IfOk, IsTrue, MatchOption, MatchResult};
+ghost use Rattle.std.specs.Prelude.{◌≡◌, ◌↔◌, ◌∷◌, [], ℕ, true, List, Some, slice_get, IfOk};
+ghost use Rattle.std.specs.Prelude.{IsTrue, MatchOption, MatchResult};
 ghost use Rattle.std.specs.Char.{is_ascii_digit};
 ghost use Rattle.std.specs.List.{list_all};
 ghost use Rattle.rt_json.specs.declared.tree.Json as j;
-ghost use Rattle.rt_first.specs.Script.{HasColumns, HasKeyName, IsField, IsFields, IsInsert, IsInsertTree, IsKey, IsRow, IsRowLine, fits, insert_tree, is_small_number, without_minus};
+ghost use Rattle.rt_first.specs.Script.{HasColumns, HasKeyName, IsField, IsFields, IsInsert};
+ghost use Rattle.rt_first.specs.Script.{IsInsertTree, IsKey, IsRow, IsRowLine, fits, insert_tree};
+ghost use Rattle.rt_first.specs.Script.{is_small_number, without_minus};
 ghost use Rattle.rt_first.specs.declared.catalogue.Column as c;
 
 use crate::fault::FormFault;
@@ -53,14 +56,16 @@ fn is_value(tree: &Json, column_type: ColumnType) -> bool
 }
 
 fn is_of(name: &Json, value: &Json, column: &Column) -> bool
-    ensures { IsTrue result ↔ ((name.now ≡ Json.Text column.now.name) × (fits column.now.column_type value.now ≡ true)) }
+    ensures { IsTrue result ↔ ((name.now ≡ Json.Text column.now.name)
+        × (fits column.now.column_type value.now ≡ true)) }
 {
     is_text(name, column.name.get()) && is_value(value, column.column_type)
 }
 
 /// The value that a field has for the column. Its type is passed over.
 fn value_in<'a>(tree: &'a Json, column: &Column) -> Option<&'a Json>
-    ensures { MatchOption result ((value : j.Json) → IsField column.now tree.now value → ⊥) (λ value. IsField column.now tree.now value.now) }
+    ensures { MatchOption result ((value : j.Json) → IsField column.now tree.now value → ⊥)
+        (λ value. IsField column.now tree.now value.now) }
 {
     let (name, _, value) = three_values(tree, "name", "type", "value")?;
     if is_of(name, value, column) {
@@ -72,7 +77,8 @@ fn value_in<'a>(tree: &'a Json, column: &Column) -> Option<&'a Json>
 
 /// The values that fields have for both columns, in order.
 fn values_in<'a>(tree: &'a Json, first: &Column, second: &Column) -> Option<(&'a Json, &'a Json)>
-    ensures { MatchOption result ((one two : j.Json) → IsFields first.now second.now tree.now one two → ⊥)
+    ensures { MatchOption result ((one two : j.Json)
+        → IsFields first.now second.now tree.now one two → ⊥)
         (λ values. IsFields first.now second.now tree.now values.0.now values.1.now) }
 {
     let (one, two) = two_elements(tree)?;
@@ -92,7 +98,8 @@ fn is_key(tree: &Json, key: &Column) -> bool
 }
 
 fn key_name(tree: &Json) -> Option<&Json>
-    ensures { MatchOption result ((name : j.Json) → HasKeyName tree.now name → ⊥) (λ name. HasKeyName tree.now name.now) }
+    ensures { MatchOption result ((name : j.Json) → HasKeyName tree.now name → ⊥)
+        (λ name. HasKeyName tree.now name.now) }
 {
     let key = only_element(tree)?;
     let (name, _) = two_values(key, "name", "type")?;
@@ -101,7 +108,8 @@ fn key_name(tree: &Json) -> Option<&Json>
 
 /// The fields and the key of a record that inserts into a table of this name.
 fn insert_parts<'a>(tree: &'a Json, table: &str) -> Option<(&'a Json, &'a Json)>
-    ensures { MatchOption result ((fields keys : j.Json) → tree.now ≡ insert_tree table.now fields keys → ⊥)
+    ensures { MatchOption result ((fields keys : j.Json)
+        → tree.now ≡ insert_tree table.now fields keys → ⊥)
         (λ parts. tree.now ≡ insert_tree table.now parts.0.now parts.1.now) }
 {
     let rest = first_text(members_of(tree)?, "action", "I")?;
@@ -124,8 +132,10 @@ fn row_in<'a>(
     second: &Column,
     key: &Column,
 ) -> Option<(&'a Json, &'a Json)>
-    ensures { MatchOption result ((one two : j.Json) → IsInsertTree table.now first.now second.now key.now tree.now one two → ⊥)
-        (λ values. IsInsertTree table.now first.now second.now key.now tree.now values.0.now values.1.now) }
+    ensures { MatchOption result ((one two : j.Json)
+        → IsInsertTree table.now first.now second.now key.now tree.now one two → ⊥)
+        (λ values. IsInsertTree table.now first.now second.now key.now tree.now
+        values.0.now values.1.now) }
 {
     let (fields, keys) = insert_parts(tree, table)?;
     let (one, two) = values_in(fields, first, second)?;
@@ -146,7 +156,8 @@ fn row_of(alloc: Global, one: &Json, two: &Json) -> Result<List<Json>, AllocErro
 }
 
 fn two_of(columns: &[Column]) -> Option<(&Column, &Column)>
-    ensures { MatchOption result ((first second : c.Column) → columns.now ≡ first ∷ second ∷ [] → ⊥) (λ both. columns.now ≡ both.0.now ∷ both.1.now ∷ []) }
+    ensures { MatchOption result ((first second : c.Column) → columns.now ≡ first ∷ second ∷ [] → ⊥)
+        (λ both. columns.now ≡ both.0.now ∷ both.1.now ∷ []) }
 {
     if columns.len() == 2 {
         Some((&columns[0], &columns[1]))
@@ -156,7 +167,8 @@ fn two_of(columns: &[Column]) -> Option<(&Column, &Column)>
 }
 
 fn key_of(table: &Table) -> Option<&Column>
-    ensures { MatchOption result ((key : c.Column) → slice_get table.now.columns table.now.key ≡ Some key → ⊥)
+    ensures { MatchOption result ((key : c.Column)
+        → slice_get table.now.columns table.now.key ≡ Some key → ⊥)
         (λ key. slice_get table.now.columns table.now.key ≡ Some key.now) }
 {
     table.columns.get().get(table.key)
@@ -164,7 +176,8 @@ fn key_of(table: &Table) -> Option<&Column>
 
 /// The two columns of a table, and its key's.
 fn columns_of(table: &Table) -> Option<(&Column, &Column, &Column)>
-    ensures { MatchOption result ((first second key : c.Column) → HasColumns table.now first second key → ⊥)
+    ensures { MatchOption result ((first second key : c.Column)
+        → HasColumns table.now first second key → ⊥)
         (λ found. HasColumns table.now found.0.now found.1.now found.2.now) }
 {
     let (first, second) = two_of(table.columns.get())?;
@@ -203,8 +216,10 @@ fn row_of_line(
     second: &Column,
     key: &Column,
 ) -> Result<List<Json>, FormFault>
-    ensures found { IfOk result (λ row. IsRowLine table.now first.now second.now key.now line.now row) }
-    ensures only { (row : List j.Json) → IsRowLine table.now first.now second.now key.now line.now row
+    ensures found { IfOk result
+        (λ row. IsRowLine table.now first.now second.now key.now line.now row) }
+    ensures only { (row : List j.Json)
+        → IsRowLine table.now first.now second.now key.now line.now row
         → MatchResult result (λ found. found ≡ row) (λ fault. fault ≡ FormFault.NoMemory) }
 {
     if line.len() > MOST_RECORD_BYTES {
@@ -215,8 +230,9 @@ fn row_of_line(
     Ok(row)
 }
 
-/// The row that a record inserts into the table, a value for each column. `NotBuilt` where it is no insert of the built
-/// form: the members in their order, each value of its column's type, no commit time.
+/// The row that a record inserts into the table, a value for each column. `NotBuilt` where it is no
+/// insert of the built form: the members in their order, each value of its column's type, no commit
+/// time.
 pub fn inserted_row(alloc: Global, line: &str, table: &Table) -> Result<List<Json>, FormFault>
     ensures found { IfOk result (λ row. IsInsert table.now line.now row) }
     ensures only { (row : List j.Json) → IsInsert table.now line.now row

@@ -1,10 +1,13 @@
-ghost use Rattle.std.specs.Prelude.{◌≡◌, ◌↔◌, ◌++◌, ◌<◌, ℕ, List, codes, length, false, IfOk, IsTrue, MatchOption, MatchResult};
+ghost use Rattle.std.specs.Prelude.{◌≡◌, ◌↔◌, ◌++◌, ◌<◌, ℕ, List, codes, length, false, IfOk};
+ghost use Rattle.std.specs.Prelude.{IsTrue, MatchOption, MatchResult};
 ghost use Rattle.rt_json.specs.Grammar.{IsJson};
 ghost use Rattle.rt_json.specs.declared.tree.Json as j;
 ghost use Rattle.rt_json.specs.declared.tree.named.Member as m;
 ghost use Rattle.realtime_replay.specs.Faults.{of_json};
 ghost use Rattle.rt_first.specs.Messages.{wanted_binding};
-ghost use Rattle.rt_first.specs.Script.{AreNamed, IsChannel, IsJoin, IsJoinTree, bindings_tree, config_tree, frame_tree, join_tree, payload_tree, presence_tree};
+ghost use Rattle.rt_first.specs.Script.{AreNamed, IsChannel, IsJoin, IsJoinTree, bindings_tree};
+ghost use Rattle.rt_first.specs.Script.{config_tree, frame_tree, join_tree, payload_tree};
+ghost use Rattle.rt_first.specs.Script.{presence_tree};
 ghost use Rattle.rt_first.specs.declared.script.Join as join;
 
 use crate::fault::FormFault;
@@ -24,7 +27,8 @@ const TOPIC_PREFIX: &str = "realtime:";
 
 /// The members behind those of a binding to every event of the table.
 fn behind_binding<'a>(tree: &'a Json, table: &str) -> Option<&'a [Member]>
-    ensures { MatchOption result ((rest : List m.Member) → tree.now ≡ Json.Object (wanted_binding table.now ++ rest) → ⊥)
+    ensures { MatchOption result ((rest : List m.Member)
+        → tree.now ≡ Json.Object (wanted_binding table.now ++ rest) → ⊥)
         (λ rest. tree.now ≡ Json.Object (wanted_binding table.now ++ rest.now)) }
 {
     let rest = first_text(members_of(tree)?, "event", "*")?;
@@ -90,7 +94,8 @@ fn is_payload(tree: &Json, table: &str) -> bool
 
 /// The topic, the payload and the ref of a frame that joins.
 fn frame_parts(tree: &Json) -> Option<(&Json, &Json, &Json)>
-    ensures { MatchOption result ((topic payload reference : j.Json) → tree.now ≡ frame_tree topic payload reference → ⊥)
+    ensures { MatchOption result ((topic payload reference : j.Json)
+        → tree.now ≡ frame_tree topic payload reference → ⊥)
         (λ parts. tree.now ≡ frame_tree parts.0.now parts.1.now parts.2.now) }
 {
     let (topic, rest) = first_named(members_of(tree)?, "topic")?;
@@ -106,7 +111,8 @@ fn frame_parts(tree: &Json) -> Option<(&Json, &Json, &Json)>
 
 /// The texts of a join: its topic, and what the client calls the frame.
 fn texts_of<'a>(tree: &'a Json, table: &str) -> Option<(&'a Text, &'a Text)>
-    ensures { MatchOption result ((topic reference : List ℕ) → tree.now ≡ join_tree topic reference table.now → ⊥)
+    ensures { MatchOption result ((topic reference : List ℕ)
+        → tree.now ≡ join_tree topic reference table.now → ⊥)
         (λ texts. tree.now ≡ join_tree texts.0.now texts.1.now table.now) }
 {
     let (topic, payload, reference) = frame_parts(tree)?;
@@ -121,7 +127,8 @@ fn texts_of<'a>(tree: &'a Json, table: &str) -> Option<(&'a Text, &'a Text)>
 
 /// The channel of a topic, which isn't empty.
 fn channel_of(topic: &str) -> Option<&str>
-    ensures { MatchOption result ((channel : List ℕ) → IsChannel topic.now channel → ⊥) (λ channel. IsChannel topic.now channel.now) }
+    ensures { MatchOption result ((channel : List ℕ) → IsChannel topic.now channel → ⊥)
+        (λ channel. IsChannel topic.now channel.now) }
 {
     let channel = topic.strip_prefix(TOPIC_PREFIX)?;
     if channel.is_empty() {
@@ -133,7 +140,8 @@ fn channel_of(topic: &str) -> Option<&str>
 
 /// The topic, the channel and the ref of a join.
 fn names_of<'a>(tree: &'a Json, table: &str) -> Option<(&'a Text, &'a str, &'a Text)>
-    ensures { MatchOption result ((topic channel reference : List ℕ) → AreNamed table.now tree.now topic channel reference → ⊥)
+    ensures { MatchOption result ((topic channel reference : List ℕ)
+        → AreNamed table.now tree.now topic channel reference → ⊥)
         (λ names. AreNamed table.now tree.now names.0.now names.1.now names.2.now) }
 {
     let (topic, reference) = texts_of(tree, table)?;
@@ -162,7 +170,8 @@ fn join_from(alloc: Global, tree: &Json, table: &str) -> Result<Join, FormFault>
     }
 }
 
-/// The join that a frame is. `NotBuilt` where it is none of the built form, presence disabled and one binding.
+/// The join that a frame is. `NotBuilt` where it is none of the built form, presence disabled and
+/// one binding.
 pub fn join_of(alloc: Global, frame: &str, table: &str) -> Result<Join, FormFault>
     ensures found { IfOk result (λ join. IsJoin table.now frame.now join) }
     ensures only { (join : join.Join) → IsJoin table.now frame.now join
@@ -189,7 +198,8 @@ fn of_json(fault: JsonFault) -> FormFault
 /// The tree of a JSON text. `NotBuilt` where it is none.
 pub fn tree_of(alloc: Global, text: &str) -> Result<Json, FormFault>
     ensures found { IfOk result (λ tree. IsJson text.now tree) }
-    ensures only { (tree : j.Json) → IsJson text.now tree → MatchResult result (λ found. found ≡ tree) (λ fault. fault ≡ FormFault.NoMemory) }
+    ensures only { (tree : j.Json) → IsJson text.now tree
+        → MatchResult result (λ found. found ≡ tree) (λ fault. fault ≡ FormFault.NoMemory) }
 {
     match read(alloc, text.as_bytes()) {
         Ok(tree) => Ok(tree),

@@ -1,12 +1,14 @@
 //! The words and signs of a catalogue's text.
-ghost use Rattle.std.specs.Prelude.{◌≡◌, ◌↔◌, All, ℕ, List, true, map, codes, IfOk, IfErr, IsTrue, MatchResult};
+ghost use Rattle.std.specs.Prelude.{◌≡◌, ◌↔◌, All, ℕ, List, true, map, codes, IfOk, IfErr, IsTrue};
+ghost use Rattle.std.specs.Prelude.{MatchResult};
 ghost use Rattle.std.specs.List.{list_all, list_any};
 ghost use Rattle.std.specs.Str.{bytes_eq};
 ghost use Rattle.std.specs.Str.Iter.{HasSubslice};
 ghost use Rattle.rt_sql.specs.Cut.{IsCut};
 ghost use Rattle.rt_sql.specs.Lexeme.{IsTokenOf};
 ghost use Rattle.rt_sql.specs.declared.lexeme.Token as token;
-ghost use Rattle.rt_first.specs.Lexing.{AreWords, begins_name, is_name, is_plain, reserved, word_of};
+ghost use Rattle.rt_first.specs.Lexing.{AreWords, begins_name, is_name, is_plain, reserved};
+ghost use Rattle.rt_first.specs.Lexing.{word_of};
 
 use crate::fault::FormFault;
 use rt_sql::{SqlFault, Token, TokenKind, tokens};
@@ -25,7 +27,8 @@ const MOST_NAME_BYTES: usize = 63;
 fn cut(alloc: Global, text: &str) -> Result<Vec<Token>, FormFault>
     ensures found { IfOk result (λ tokens. IsCut text.now tokens.items) }
     ensures each { IfOk result (λ tokens. All (IsTokenOf text.now) tokens.items) }
-    ensures only { (list : List token.Token) → IsCut text.now list → MatchResult result (λ tokens. tokens.items ≡ list) (λ fault. fault ≡ FormFault.NoMemory) }
+    ensures only { (list : List token.Token) → IsCut text.now list → MatchResult result
+        (λ tokens. tokens.items ≡ list) (λ fault. fault ≡ FormFault.NoMemory) }
 {
     match tokens(alloc, text) {
         Ok(tokens) => Ok(tokens),
@@ -39,7 +42,8 @@ fn word_in(alloc: Global, text: &str, token: &Token) -> Result<Text, FormFault>
     requires { IsTokenOf text.now token.now }
     ensures found { IfOk result (λ word. word ≡ word_of text.now token.now) }
     ensures plain { IfOk result (λ word. is_plain token.now.kind ≡ true) }
-    ensures only { IfErr result (λ fault. is_plain token.now.kind ≡ true → fault ≡ FormFault.NoMemory) }
+    ensures only { IfErr result (λ fault. is_plain token.now.kind ≡ true
+        → fault ≡ FormFault.NoMemory) }
 {
     match token.kind {
         TokenKind::Word => Ok(Text::new(token.name(alloc, text)?)),
@@ -53,7 +57,8 @@ fn words_in(alloc: Global, text: &str, tokens: &[Token]) -> Result<Vec<Text>, Fo
     requires { All (IsTokenOf text.now) tokens.now }
     ensures found { IfOk result (λ words. words.items ≡ map (word_of text.now) tokens.now) }
     ensures plain { IfOk result (λ words. list_all (λ t. is_plain t.kind) tokens.now ≡ true) }
-    ensures only { IfErr result (λ fault. list_all (λ t. is_plain t.kind) tokens.now ≡ true → fault ≡ FormFault.NoMemory) }
+    ensures only { IfErr result (λ fault. list_all (λ t. is_plain t.kind) tokens.now ≡ true
+        → fault ≡ FormFault.NoMemory) }
 {
     let mut words = Vec::new(alloc);
     for token in tokens {
@@ -69,10 +74,12 @@ fn has_comment(text: &str) -> bool
     text.contains("--")
 }
 
-/// The words of a text in lower case, and its signs. `NotBuilt` where another kind of token stands in it, or a comment.
+/// The words of a text in lower case, and its signs. `NotBuilt` where another kind of token stands
+/// in it, or a comment.
 pub fn words_of(alloc: Global, text: &str) -> Result<Vec<Text>, FormFault>
     ensures found { IfOk result (λ words. AreWords text.now words.items) }
-    ensures only { (words : List (List ℕ)) → AreWords text.now words → MatchResult result (λ found. found.items ≡ words) (λ fault. fault ≡ FormFault.NoMemory) }
+    ensures only { (words : List (List ℕ)) → AreWords text.now words → MatchResult result
+        (λ found. found.items ≡ words) (λ fault. fault ≡ FormFault.NoMemory) }
 {
     if has_comment(text) {
         return Err(FormFault::NotBuilt);
@@ -97,7 +104,8 @@ fn is_reserved(word: &str) -> bool
     RESERVED.contains(&word)
 }
 
-/// Whether a word or sign is a name: a word that has at most 63 bytes and is none of those of expressions.
+/// Whether a word or sign is a name: a word that has at most 63 bytes and is none of those of
+/// expressions.
 pub fn is_name(word: &str) -> bool
     ensures { result ≡ is_name word.now }
 {

@@ -14,7 +14,8 @@ fn message(
     payload: Vec<Member>,
     reference: Json,
 ) -> Result<Json, AllocError>
-    ensures { IfOk result (λ tree. tree ≡ spec.message topic.now event.now (Json.Object payload.items) reference) }
+    ensures { IfOk result (λ tree.
+        tree ≡ spec.message topic.now event.now (Json.Object payload.items) reference) }
 {
     let mut members = Vec::new(alloc);
     put_text(alloc, &mut members, "topic", topic)?;

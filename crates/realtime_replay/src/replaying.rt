@@ -1,7 +1,9 @@
 ghost use Rattle.std.specs.Prelude.{◌≡◌, ◌≢◌, map, List, ℕ, IfErr, IfOk, OnOk};
+ghost use Rattle.std.specs.IoError.{error_kind};
 ghost use Rattle.rt_first.specs.Output.{given};
 ghost use Rattle.rt_first.specs.Printed.{printed};
-ghost use Rattle.realtime_replay.specs.Answers.{HasNoCatalogue, IsCalm, IsComplete, Ran, RunTells, Said, Tells, flow, line_of};
+ghost use Rattle.realtime_replay.specs.Answers.{HasNoCatalogue, IsCalm, IsComplete, Ran, RunTells};
+ghost use Rattle.realtime_replay.specs.Answers.{Said, Tells, flow, line_of};
 ghost use Rattle.realtime_replay.specs.Faults as faults;
 ghost use Rattle.realtime_replay.specs.Parts.{HasOne, HasScript, LacksScript, SourceTells};
 ghost use Rattle.realtime_replay.specs.Words.{IsCommand, NoCommand};
@@ -12,13 +14,15 @@ use crate::fault::RunFault;
 use crate::messages::{change, join_reply, subscribed};
 use crate::printing::print_slot;
 use crate::script::read_script;
-use crate::status::{Status, status_of};
+use crate::status::{Status, status_of, status_without_words};
 use crate::words::command_of;
 use rt_first::laws::given_is_due;
 use rt_first::{Catalogue, Script};
 use rt_io::{Sink, Source, read_all, write_all};
 use rt_value::Bytes;
 use std::alloc::{AllocError, Global};
+use std::io;
+use std::io::ErrorKind;
 use std::thread::Threads;
 
 /// The most bytes of a source.
@@ -26,8 +30,12 @@ const MOST_SOURCE_BYTES: usize = 67108864;
 
 /// The catalogue of the first form that a source gives.
 fn catalogue_from<S: Source>(alloc: Global, source: &mut S) -> Result<Catalogue, RunFault>
-    ensures found { IfOk result (λ catalogue. HasOne (flow (S.left source.old) (S.left source.new) (S.faults source.old) (S.faults source.new)) catalogue) }
-    ensures cause { IfErr result (SourceTells HasNoCatalogue (flow (S.left source.old) (S.left source.new) (S.faults source.old) (S.faults source.new))) }
+    ensures found { IfOk result (λ catalogue. HasOne
+        (flow (S.left source.old) (S.left source.new)
+        (S.faults source.old) (S.faults source.new)) catalogue) }
+    ensures cause { IfErr result (SourceTells HasNoCatalogue
+        (flow (S.left source.old) (S.left source.new)
+        (S.faults source.old) (S.faults source.new))) }
 {
     let text = read_all(alloc, source, MOST_SOURCE_BYTES)?;
     let catalogue = read_catalogue(alloc, text.get())?;
@@ -40,8 +48,12 @@ fn script_from<S: Source>(
     catalogue: &Catalogue,
     source: &mut S,
 ) -> Result<Script, RunFault>
-    ensures found { IfOk result (λ script. HasScript catalogue.now (flow (S.left source.old) (S.left source.new) (S.faults source.old) (S.faults source.new)) script) }
-    ensures cause { IfErr result (SourceTells (LacksScript catalogue.now) (flow (S.left source.old) (S.left source.new) (S.faults source.old) (S.faults source.new))) }
+    ensures found { IfOk result (λ script. HasScript catalogue.now
+        (flow (S.left source.old) (S.left source.new)
+        (S.faults source.old) (S.faults source.new)) script) }
+    ensures cause { IfErr result (SourceTells (LacksScript catalogue.now)
+        (flow (S.left source.old) (S.left source.new)
+        (S.faults source.old) (S.faults source.new))) }
 {
     let text = read_all(alloc, source, MOST_SOURCE_BYTES)?;
     let script = read_script(alloc, catalogue, text.get())?;
@@ -50,7 +62,8 @@ fn script_from<S: Source>(
 
 /// What the slot is given: the reply to its join, the system's message, the change.
 fn output(alloc: Global, catalogue: &Catalogue, script: &Script) -> Result<Bytes, AllocError>
-    ensures { IfOk result (λ bytes. bytes ≡ printed script.now.slot (given catalogue.now script.now)) }
+    ensures { IfOk result (λ bytes. bytes ≡ printed script.now.slot
+        (given catalogue.now script.now)) }
 {
     let topic = script.join.topic.get();
     let reference = script.join.reference.get();
@@ -70,11 +83,13 @@ fn run<C: Source, S: Source, O: Sink>(
     out: &mut O,
 ) -> Result<(), RunFault>
     ensures ran { OnOk result (Ran
-        (flow (C.left catalogue.old) (C.left catalogue.new) (C.faults catalogue.old) (C.faults catalogue.new))
+        (flow (C.left catalogue.old) (C.left catalogue.new)
+        (C.faults catalogue.old) (C.faults catalogue.new))
         (flow (S.left script.old) (S.left script.new) (S.faults script.old) (S.faults script.new))
         (flow (O.held out.old) (O.held out.new) (O.faults out.old) (O.faults out.new))) }
     ensures cause { IfErr result (λ fault. RunTells
-        (flow (C.left catalogue.old) (C.left catalogue.new) (C.faults catalogue.old) (C.faults catalogue.new))
+        (flow (C.left catalogue.old) (C.left catalogue.new)
+        (C.faults catalogue.old) (C.faults catalogue.new))
         (flow (S.left script.old) (S.left script.new) (S.faults script.old) (S.faults script.new))
         (flow (O.held out.old) (O.held out.new) (O.faults out.old) (O.faults out.new))
         (faults.status_of fault)) }
@@ -95,7 +110,8 @@ fn status_after<C: Source, S: Source, O: Sink>(
     out: &mut O,
 ) -> Status
     ensures { RunTells
-        (flow (C.left catalogue.old) (C.left catalogue.new) (C.faults catalogue.old) (C.faults catalogue.new))
+        (flow (C.left catalogue.old) (C.left catalogue.new)
+        (C.faults catalogue.old) (C.faults catalogue.new))
         (flow (S.left script.old) (S.left script.new) (S.faults script.old) (S.faults script.new))
         (flow (O.held out.old) (O.held out.new) (O.faults out.old) (O.faults out.new))
         result }
@@ -115,7 +131,8 @@ fn done<C: Source, S: Source, O: Sink>(
     out: &mut O,
 ) -> Status
     ensures { Tells (map (λ w. w.now) words.now)
-        (flow (C.left catalogue.old) (C.left catalogue.new) (C.faults catalogue.old) (C.faults catalogue.new))
+        (flow (C.left catalogue.old) (C.left catalogue.new)
+        (C.faults catalogue.old) (C.faults catalogue.new))
         (flow (S.left script.old) (S.left script.new) (S.faults script.old) (S.faults script.new))
         (flow (O.held out.old) (O.held out.new) (O.faults out.old) (O.faults out.new))
         result }
@@ -129,18 +146,35 @@ fn done<C: Source, S: Source, O: Sink>(
 
 /// Says a status on the error stream. That it can't be said changes nothing.
 fn say<E: Sink>(err: &mut E, status: Status)
-    ensures { Said (flow (E.held err.old) (E.held err.new) (E.faults err.old) (E.faults err.new)) (line_of status) }
+    ensures { Said
+        (flow (E.held err.old) (E.held err.new) (E.faults err.old) (E.faults err.new))
+        (line_of status) }
 {
     let _ = write_all(err, status.line().as_bytes());
 }
 
-/// Does what the words say: `replay CATALOGUE SCRIPT` runs a script over a catalogue and writes to `out` what each slot was
-/// given, a line for each message.
+/// Ends a program whose command line gave an error in place of its words: `Usage` where one of them
+/// isn't UTF-8, else `NoMemory`. `err` is given the status's line.
+pub fn refuse<E: Sink>(err: &mut E, error: &io::Error) -> Status
+    ensures usage { error_kind error.now ≡ ErrorKind.InvalidData → result ≡ Status.Usage }
+    ensures memory { error_kind error.now ≢ ErrorKind.InvalidData → result ≡ Status.NoMemory }
+    ensures said { Said
+        (flow (E.held err.old) (E.held err.new) (E.faults err.old) (E.faults err.new))
+        (line_of result) }
+{
+    let status = status_without_words(error);
+    say(err, status);
+    status
+}
+
+/// Does what the words say: `replay CATALOGUE SCRIPT` runs a script over a catalogue and writes to
+/// `out` what each slot was given, a line for each message.
 ///
-/// The answer is the first of these that applies: `Usage` for other words, `NotBuilt` for a command that isn't built,
-/// `ReadFault` and `TooLong` of the catalogue, `NotBuilt` for a catalogue of another form, the same three of the script,
-/// and `WriteFault`. Nothing is written to `out` before the run has ended. `err` is given the status's line; that it can't
-/// be changes nothing. No thread is started yet.
+/// The answer is the first of these that applies: `Usage` for other words, `NotBuilt` for a command
+/// that isn't built, `ReadFault` and `TooLong` of the catalogue, `NotBuilt` for a catalogue of
+/// another form, the same three of the script, and `WriteFault`. Nothing is written to `out` before
+/// the run has ended. `err` is given the status's line; that it can't be changes nothing. No thread
+/// is started yet.
 pub fn replay<R: Threads + Sync, C: Source, S: Source, O: Sink, E: Sink>(
     _rt: &R,
     alloc: Global,
@@ -151,20 +185,25 @@ pub fn replay<R: Threads + Sync, C: Source, S: Source, O: Sink, E: Sink>(
     err: &mut E,
 ) -> Status
     ensures answer { Tells (map (λ w. w.now) words.now)
-        (flow (C.left catalogue.old) (C.left catalogue.new) (C.faults catalogue.old) (C.faults catalogue.new))
+        (flow (C.left catalogue.old) (C.left catalogue.new)
+        (C.faults catalogue.old) (C.faults catalogue.new))
         (flow (S.left script.old) (S.left script.new) (S.faults script.old) (S.faults script.new))
         (flow (O.held out.old) (O.held out.new) (O.faults out.old) (O.faults out.new))
         result }
     ensures others { NoCommand (map (λ w. w.now) words.now) → result ≡ Status.Usage }
-    ensures unbuilt { (command : Command) → IsCommand (map (λ w. w.now) words.now) command → command ≢ Command.Replay → result ≡ Status.NotBuilt }
+    ensures unbuilt { (command : Command) → IsCommand (map (λ w. w.now) words.now) command
+        → command ≢ Command.Replay → result ≡ Status.NotBuilt }
     ensures complete { (text lines : List ℕ) → IsCommand (map (λ w. w.now) words.now) Command.Replay
         → IsCalm
-        (flow (C.left catalogue.old) (C.left catalogue.new) (C.faults catalogue.old) (C.faults catalogue.new))
+        (flow (C.left catalogue.old) (C.left catalogue.new)
+        (C.faults catalogue.old) (C.faults catalogue.new))
         (flow (S.left script.old) (S.left script.new) (S.faults script.old) (S.faults script.new))
         (flow (O.held out.old) (O.held out.new) (O.faults out.old) (O.faults out.new))
         text lines
         → IsComplete text lines result }
-    ensures said { Said (flow (E.held err.old) (E.held err.new) (E.faults err.old) (E.faults err.new)) (line_of result) }
+    ensures said { Said
+        (flow (E.held err.old) (E.held err.new) (E.faults err.old) (E.faults err.new))
+        (line_of result) }
 {
     let status = done(alloc, words, catalogue, script, out);
     say(err, status);

@@ -1,6 +1,8 @@
-ghost use Rattle.std.specs.Prelude.{◌≡◌, ◌↔◌, ◌++◌, ◌∷◌, ◌≤◌, ◌<◌, ℕ, List, codes, IfOk, IfErr, IsTrue, MatchOption, MatchResult, OnOk};
+ghost use Rattle.std.specs.Prelude.{◌≡◌, ◌↔◌, ◌++◌, ◌∷◌, ◌≤◌, ◌<◌, ℕ, List, codes, IfOk, IfErr};
+ghost use Rattle.std.specs.Prelude.{IsTrue, MatchOption, MatchResult, OnOk};
 ghost use Rattle.std.specs.Fmt.{decimal};
-ghost use Rattle.rt_first.specs.Script.{AreLines, AreParts, AreSaid, IsClaims, IsScript, Lacks, claims_tree, slot_line};
+ghost use Rattle.rt_first.specs.Script.{AreLines, AreParts, AreSaid, IsClaims, IsScript, Lacks};
+ghost use Rattle.rt_first.specs.Script.{claims_tree, slot_line};
 ghost use Rattle.rt_first.specs.declared.script.Script as script;
 
 use crate::fault::FormFault;
@@ -16,7 +18,8 @@ use std::alloc::Global;
 /// What stands before and behind the first byte of a kind.
 fn cut(text: &str, byte: char) -> Option<(&str, &str)>
     requires { byte < 128 }
-    ensures { MatchOption result ((before after : List ℕ) → Lacks byte before → text.now ≡ before ++ byte ∷ after → ⊥)
+    ensures { MatchOption result ((before after : List ℕ) → Lacks byte before
+        → text.now ≡ before ++ byte ∷ after → ⊥)
         (λ parts. Lacks byte parts.0.now × (text.now ≡ parts.0.now ++ byte ∷ parts.1.now)) }
 {
     text.split_once(byte)
@@ -24,13 +27,15 @@ fn cut(text: &str, byte: char) -> Option<(&str, &str)>
 
 /// What stands behind a word.
 fn behind<'a>(text: &'a str, word: &str) -> Option<&'a str>
-    ensures { MatchOption result ((rest : List ℕ) → text.now ≡ word.now ++ rest → ⊥) (λ rest. text.now ≡ word.now ++ rest.now) }
+    ensures { MatchOption result ((rest : List ℕ) → text.now ≡ word.now ++ rest → ⊥)
+        (λ rest. text.now ≡ word.now ++ rest.now) }
 {
     text.strip_prefix(word)
 }
 
 fn slot_of(text: &str) -> Option<u8>
-    ensures { MatchOption result ((slot : ℕ) → slot ≤ 255 → text.now ≡ decimal slot → ⊥) (λ slot. (slot ≤ 255) × (text.now ≡ decimal slot)) }
+    ensures { MatchOption result ((slot : ℕ) → slot ≤ 255 → text.now ≡ decimal slot → ⊥)
+        (λ slot. (slot ≤ 255) × (text.now ≡ decimal slot)) }
 {
     let number = number_of(text)?;
     if number <= 255 {
@@ -42,7 +47,8 @@ fn slot_of(text: &str) -> Option<u8>
 
 /// The slot that a line names behind a word, and what stands behind it.
 fn slot_and_rest<'a>(line: &'a str, word: &str) -> Option<(u8, &'a str)>
-    ensures { MatchOption result ((slot : ℕ) (rest : List ℕ) → slot ≤ 255 → line.now ≡ slot_line word.now slot rest → ⊥)
+    ensures { MatchOption result ((slot : ℕ) (rest : List ℕ) → slot ≤ 255
+        → line.now ≡ slot_line word.now slot rest → ⊥)
         (λ found. (found.0 ≤ 255) × (line.now ≡ slot_line word.now found.0 found.1.now)) }
 {
     let (slot, rest) = cut(behind(line, word)?, ' ')?;
@@ -51,7 +57,8 @@ fn slot_and_rest<'a>(line: &'a str, word: &str) -> Option<(u8, &'a str)>
 
 /// The four lines of a text, each ended by LF, and nothing behind them.
 fn lines_of(text: &str) -> Option<(&str, &str, &str, &str)>
-    ensures { MatchOption result ((opening frame wal poll : List ℕ) → AreLines text.now opening frame wal poll → ⊥)
+    ensures { MatchOption result ((opening frame wal poll : List ℕ)
+        → AreLines text.now opening frame wal poll → ⊥)
         (λ lines. AreLines text.now lines.0.now lines.1.now lines.2.now lines.3.now) }
 {
     let (opening, rest) = cut(text, '\n')?;
@@ -67,7 +74,8 @@ fn lines_of(text: &str) -> Option<(&str, &str, &str, &str)>
 
 /// The slot, the claims, the frame and the record of a text's lines.
 fn parts_of(text: &str) -> Option<(u8, &str, &str, &str)>
-    ensures { MatchOption result ((slot : ℕ) (claims frame entry : List ℕ) → AreParts text.now slot claims frame entry → ⊥)
+    ensures { MatchOption result ((slot : ℕ) (claims frame entry : List ℕ)
+        → AreParts text.now slot claims frame entry → ⊥)
         (λ parts. AreParts text.now parts.0 parts.1.now parts.2.now parts.3.now) }
 {
     let (opening, frame, wal, poll) = lines_of(text)?;
@@ -102,7 +110,8 @@ fn is_claims(tree: &Json, role: &str) -> bool
 /// Whether claims are the one member `role`, and name this one.
 fn are_claims(alloc: Global, claims: &str, role: &str) -> Result<(), FormFault>
     ensures found { OnOk result (IsClaims role.now claims.now) }
-    ensures only { IsClaims role.now claims.now → IfErr result (λ fault. fault ≡ FormFault.NoMemory) }
+    ensures only { IsClaims role.now claims.now → IfErr result
+        (λ fault. fault ≡ FormFault.NoMemory) }
 {
     let tree = tree_of(alloc, claims)?;
     if is_claims(&tree, role) {
@@ -121,8 +130,10 @@ fn script_of(
     frame: &str,
     line: &str,
 ) -> Result<Script, FormFault>
-    ensures found { IfOk result (λ script. AreSaid catalogue.now slot claims.now frame.now line.now script) }
-    ensures only { (script : script.Script) → AreSaid catalogue.now slot claims.now frame.now line.now script
+    ensures found { IfOk result
+        (λ script. AreSaid catalogue.now slot claims.now frame.now line.now script) }
+    ensures only { (script : script.Script)
+        → AreSaid catalogue.now slot claims.now frame.now line.now script
         → MatchResult result (λ found. found ≡ script) (λ fault. fault ≡ FormFault.NoMemory) }
 {
     are_claims(alloc, claims, catalogue.role.get())?;
@@ -131,8 +142,8 @@ fn script_of(
     Ok(Script { slot, join, row })
 }
 
-/// The script that the bytes are, for the table and the role of the catalogue. `NotBuilt` where they are no script of
-/// the built form.
+/// The script that the bytes are, for the table and the role of the catalogue. `NotBuilt` where
+/// they are no script of the built form.
 pub fn read_script(alloc: Global, catalogue: &Catalogue, bytes: &[u8]) -> Result<Script, FormFault>
     ensures found { IfOk result (λ script. IsScript catalogue.now bytes.now script) }
     ensures only { (script : script.Script) → IsScript catalogue.now bytes.now script

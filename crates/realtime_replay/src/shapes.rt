@@ -9,7 +9,8 @@ use rt_value::Text;
 
 /// The text that a tree is.
 pub fn text_of(tree: &Json) -> Option<&Text>
-    ensures { MatchOption result ((text : List ℕ) → tree.now ≡ Json.Text text → ⊥) (λ text. tree.now ≡ Json.Text text.now) }
+    ensures { MatchOption result ((text : List ℕ) → tree.now ≡ Json.Text text → ⊥)
+        (λ text. tree.now ≡ Json.Text text.now) }
 {
     match tree {
         Json::Text(text) => Some(text),
@@ -17,6 +18,7 @@ pub fn text_of(tree: &Json) -> Option<&Text>
     }
 }
 
+/// Whether a tree is this text.
 pub fn is_text(tree: &Json, wanted: &str) -> bool
     ensures { IsTrue result ↔ (tree.now ≡ Json.Text wanted.now) }
 {
@@ -28,7 +30,8 @@ pub fn is_text(tree: &Json, wanted: &str) -> bool
 
 /// The elements of a list.
 pub fn elements(tree: &Json) -> Option<&[Json]>
-    ensures { MatchOption result ((items : List j.Json) → tree.now ≡ Json.List items → ⊥) (λ items. tree.now ≡ Json.List items.now) }
+    ensures { MatchOption result ((items : List j.Json) → tree.now ≡ Json.List items → ⊥)
+        (λ items. tree.now ≡ Json.List items.now) }
 {
     match tree {
         Json::List(items) => Some(items.get()),
@@ -38,7 +41,8 @@ pub fn elements(tree: &Json) -> Option<&[Json]>
 
 /// The element of a list of one.
 pub fn only_element(tree: &Json) -> Option<&Json>
-    ensures { MatchOption result ((item : j.Json) → tree.now ≡ Json.List (item ∷ []) → ⊥) (λ item. tree.now ≡ Json.List (item.now ∷ [])) }
+    ensures { MatchOption result ((item : j.Json) → tree.now ≡ Json.List (item ∷ []) → ⊥)
+        (λ item. tree.now ≡ Json.List (item.now ∷ [])) }
 {
     let items = elements(tree)?;
     if items.len() == 1 {
@@ -50,7 +54,8 @@ pub fn only_element(tree: &Json) -> Option<&Json>
 
 /// The elements of a list of two.
 pub fn two_elements(tree: &Json) -> Option<(&Json, &Json)>
-    ensures { MatchOption result ((first second : j.Json) → tree.now ≡ Json.List (first ∷ second ∷ []) → ⊥)
+    ensures { MatchOption result ((first second : j.Json)
+        → tree.now ≡ Json.List (first ∷ second ∷ []) → ⊥)
         (λ both. tree.now ≡ Json.List (both.0.now ∷ both.1.now ∷ [])) }
 {
     let items = elements(tree)?;
@@ -63,7 +68,8 @@ pub fn two_elements(tree: &Json) -> Option<(&Json, &Json)>
 
 /// The members of an object.
 pub fn members_of(tree: &Json) -> Option<&[Member]>
-    ensures { MatchOption result ((members : List m.Member) → tree.now ≡ Json.Object members → ⊥) (λ members. tree.now ≡ Json.Object members.now) }
+    ensures { MatchOption result ((members : List m.Member) → tree.now ≡ Json.Object members → ⊥)
+        (λ members. tree.now ≡ Json.Object members.now) }
 {
     match tree {
         Json::Object(members) => Some(members.get()),
@@ -73,7 +79,8 @@ pub fn members_of(tree: &Json) -> Option<&[Member]>
 
 /// The value of the first member, which has to have this name, and the members behind it.
 pub fn first_named<'a>(members: &'a [Member], name: &str) -> Option<(&'a Json, &'a [Member])>
-    ensures { MatchOption result ((value : j.Json) (rest : List m.Member) → members.now ≡ field name.now value ∷ rest → ⊥)
+    ensures { MatchOption result ((value : j.Json) (rest : List m.Member)
+        → members.now ≡ field name.now value ∷ rest → ⊥)
         (λ found. members.now ≡ field name.now found.0.now ∷ found.1.now) }
 {
     match members {
@@ -90,7 +97,8 @@ pub fn first_named<'a>(members: &'a [Member], name: &str) -> Option<(&'a Json, &
 
 /// The members behind the first one, which has to have this name and to be this text.
 pub fn first_text<'a>(members: &'a [Member], name: &str, text: &str) -> Option<&'a [Member]>
-    ensures { MatchOption result ((rest : List m.Member) → members.now ≡ field name.now (Json.Text text.now) ∷ rest → ⊥)
+    ensures { MatchOption result ((rest : List m.Member)
+        → members.now ≡ field name.now (Json.Text text.now) ∷ rest → ⊥)
         (λ rest. members.now ≡ field name.now (Json.Text text.now) ∷ rest.now) }
 {
     let (value, rest) = first_named(members, name)?;
@@ -103,7 +111,8 @@ pub fn first_text<'a>(members: &'a [Member], name: &str, text: &str) -> Option<&
 
 /// The value of an object of one member, which has to have this name.
 pub fn only_value<'a>(tree: &'a Json, name: &str) -> Option<&'a Json>
-    ensures { MatchOption result ((value : j.Json) → tree.now ≡ Json.Object (field name.now value ∷ []) → ⊥)
+    ensures { MatchOption result ((value : j.Json)
+        → tree.now ≡ Json.Object (field name.now value ∷ []) → ⊥)
         (λ value. tree.now ≡ Json.Object (field name.now value.now ∷ [])) }
 {
     let (value, rest) = first_named(members_of(tree)?, name)?;
@@ -112,7 +121,8 @@ pub fn only_value<'a>(tree: &'a Json, name: &str) -> Option<&'a Json>
 
 /// The values of an object of two members, which have to have these names.
 pub fn two_values<'a>(tree: &'a Json, one: &str, two: &str) -> Option<(&'a Json, &'a Json)>
-    ensures { MatchOption result ((a b : j.Json) → tree.now ≡ Json.Object (field one.now a ∷ field two.now b ∷ []) → ⊥)
+    ensures { MatchOption result ((a b : j.Json)
+        → tree.now ≡ Json.Object (field one.now a ∷ field two.now b ∷ []) → ⊥)
         (λ v. tree.now ≡ Json.Object (field one.now v.0.now ∷ field two.now v.1.now ∷ [])) }
 {
     let (a, rest) = first_named(members_of(tree)?, one)?;
@@ -128,8 +138,10 @@ pub fn three_values<'a>(
     three: &str,
 ) -> Option<(&'a Json, &'a Json, &'a Json)>
     ensures { MatchOption result
-        ((a b c : j.Json) → tree.now ≡ Json.Object (field one.now a ∷ field two.now b ∷ field three.now c ∷ []) → ⊥)
-        (λ v. tree.now ≡ Json.Object (field one.now v.0.now ∷ field two.now v.1.now ∷ field three.now v.2.now ∷ [])) }
+        ((a b c : j.Json) → tree.now
+        ≡ Json.Object (field one.now a ∷ field two.now b ∷ field three.now c ∷ []) → ⊥)
+        (λ v. tree.now ≡ Json.Object (field one.now v.0.now ∷ field two.now v.1.now
+        ∷ field three.now v.2.now ∷ [])) }
 {
     let (a, rest) = first_named(members_of(tree)?, one)?;
     let (b, rest) = first_named(rest, two)?;

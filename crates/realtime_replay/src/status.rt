@@ -1,8 +1,10 @@
-ghost use Rattle.std.specs.Prelude.{◌≡◌};
+ghost use Rattle.std.specs.Prelude.{◌≡◌, ◌≢◌};
+ghost use Rattle.std.specs.IoError.{error_kind};
 ghost use Rattle.realtime_replay.specs.Answers.{line_of};
 ghost use Rattle.realtime_replay.specs.Faults.{status_of};
 
 use crate::fault::RunFault;
+use std::io::{Error, ErrorKind};
 
 /// How a run ended. The number is the program's exit status.
 #[derive(Clone, Copy, Debug, PartialEq, Eq)]
@@ -33,6 +35,19 @@ pub fn status_of(fault: RunFault) -> Status
         RunFault::TooLong => Status::TooLong,
         RunFault::NotBuilt => Status::NotBuilt,
         RunFault::WriteFault => Status::WriteFault,
+    }
+}
+
+/// The status of a program whose command line gave this error in place of its words. A word that
+/// isn't UTF-8 is one of no command; all else is want of memory.
+pub fn status_without_words(error: &Error) -> Status
+    ensures usage { error_kind error.now ≡ ErrorKind.InvalidData → result ≡ Status.Usage }
+    ensures memory { error_kind error.now ≢ ErrorKind.InvalidData → result ≡ Status.NoMemory }
+{
+    if error.kind() == ErrorKind::InvalidData {
+        Status::Usage
+    } else {
+        Status::NoMemory
     }
 }
 

@@ -1,4 +1,4 @@
-//! Small JSON trees.
+//! Small JSON trees. What can fail here fails for want of memory alone.
 ghost use Rattle.std.specs.Prelude.{◌≡◌, ◌++◌, ◌∷◌, [], IfOk, OnOk};
 ghost use Rattle.std.specs.Fmt.{decimal};
 ghost use Rattle.rt_json.specs.Trees.{field};
@@ -7,24 +7,28 @@ use rt_json::{Json, Member};
 use rt_value::{List, Text};
 use std::alloc::{AllocError, Global};
 
+/// A text.
 pub fn text_tree(alloc: Global, text: &str) -> Result<Json, AllocError>
     ensures { IfOk result (λ tree. tree ≡ Json.Text text.now) }
 {
     Ok(Json::Text(Text::new(String::from_str(alloc, text)?)))
 }
 
+/// A number, in decimal digits.
 pub fn number_tree(alloc: Global, number: u32) -> Result<Json, AllocError>
     ensures { IfOk result (λ tree. tree ≡ Json.Num (decimal number)) }
 {
     Ok(Json::Num(Text::new(format!(in alloc; "{number}")?)))
 }
 
+/// A list of these items.
 pub fn list_tree(items: Vec<Json>) -> Json
     ensures { result ≡ Json.List items.items }
 {
     Json::List(List::new(items))
 }
 
+/// An object of these members.
 pub fn object_tree(members: Vec<Member>) -> Json
     ensures { result ≡ Json.Object members.items }
 {
@@ -52,7 +56,8 @@ pub fn put_text(
     name: &str,
     text: &str,
 ) -> Result<(), AllocError>
-    ensures { OnOk result (members.new.items ≡ members.old.items ++ field name.now (Json.Text text.now) ∷ []) }
+    ensures { OnOk result (members.new.items
+        ≡ members.old.items ++ field name.now (Json.Text text.now) ∷ []) }
 {
     let value = text_tree(alloc, text)?;
     put(alloc, members, name, value)

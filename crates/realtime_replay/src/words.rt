@@ -36,7 +36,8 @@ fn is_option(word: &str) -> bool
 }
 
 fn of_one(name: &str, first: &str) -> Option<Command>
-    ensures { MatchOption result (NoCommand (name.now ∷ first.now ∷ [])) (IsCommand (name.now ∷ first.now ∷ [])) }
+    ensures { MatchOption result (NoCommand (name.now ∷ first.now ∷ []))
+        (IsCommand (name.now ∷ first.now ∷ [])) }
 {
     match name {
         "check" if !is_option(first) => Some(Command::Check),
@@ -46,7 +47,8 @@ fn of_one(name: &str, first: &str) -> Option<Command>
 }
 
 fn of_two(name: &str, first: &str, second: &str) -> Option<Command>
-    ensures { MatchOption result (NoCommand (name.now ∷ first.now ∷ second.now ∷ [])) (IsCommand (name.now ∷ first.now ∷ second.now ∷ [])) }
+    ensures { MatchOption result (NoCommand (name.now ∷ first.now ∷ second.now ∷ []))
+        (IsCommand (name.now ∷ first.now ∷ second.now ∷ [])) }
 {
     if is_option(first) || is_option(second) {
         return None;
@@ -60,7 +62,8 @@ fn of_two(name: &str, first: &str, second: &str) -> Option<Command>
 
 /// The command that the words are, None where they are none.
 pub fn command_of(words: &[&str]) -> Option<Command>
-    ensures { MatchOption result (NoCommand (map (λ w. w.now) words.now)) (IsCommand (map (λ w. w.now) words.now)) }
+    ensures { MatchOption result (NoCommand (map (λ w. w.now) words.now))
+        (IsCommand (map (λ w. w.now) words.now)) }
 {
     match words {
         [name, first] => of_one(name, first),

@@ -2,7 +2,8 @@ use Rattle.realtime_replay.proofs.Equal.{first_twice, members_twice, not_empty}
 use Rattle.realtime_replay.proofs.insert.insert_parts.Goals as goal
 
 pub returns-in_err-rest : goal.returns-in_err-rest
-returns-in_err-rest c = rw c.from_residual-in_err-rest.ensures (λ f k h. c.in_err-rest.ensures _ (members_twice _ _ _ c.in_ok-members_of.ensures h))
+returns-in_err-rest c = rw c.from_residual-in_err-rest.ensures
+    (λ f k h. c.in_err-rest.ensures _ (members_twice _ _ _ c.in_ok-members_of.ensures h))
 
 pub returns-in_err-rest-2 : goal.returns-in_err-rest-2
 returns-in_err-rest-2 c = rw c.from_residual-in_err-rest-2.ensures (λ f k h.

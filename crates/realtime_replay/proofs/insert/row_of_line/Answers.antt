@@ -5,13 +5,16 @@ use Rattle.rt_first.specs.Script.{IsRow}
 use Rattle.realtime_replay.proofs.insert.row_of_line.Goals as goal
 
 pub returns-in_err-tree-clause-only : goal.returns-in_err-tree-clause-only
-returns-in_err-tree-clause-only c = λ row h. let p = err_from_is_err_and c.from_residual.result c.from_residual.ensures.1 in rw (p.1, p.2) (c.in_err-tree.ensures.only h.tree h.read)
+returns-in_err-tree-clause-only c = λ row h.
+    let p = err_from_is_err_and c.from_residual.result c.from_residual.ensures.1 in
+    rw (p.1, p.2) (c.in_err-tree.ensures.only h.tree h.read)
 
 pub returns-in_err-row-clause-only : goal.returns-in_err-row-clause-only
 returns-in_err-row-clause-only c = λ row h.
     let P : Json → Type 0 = λ t. IsRow c.args.table.now c.args.first.now c.args.second.now c.args.key.now t row in
     let here = subst P (sym (c.in_ok-tree.ensures.only h.tree h.read)) h.row_is in
-    let p = err_from_is_err_and c.from_residual-in_err-row.result c.from_residual-in_err-row.ensures.1 in rw (p.1, p.2) (c.in_err-row.ensures.only row here)
+    let p = err_from_is_err_and c.from_residual-in_err-row.result c.from_residual-in_err-row.ensures.1 in
+    rw (p.1, p.2) (c.in_err-row.ensures.only row here)
 
 pub returns-clause-only : goal.returns-clause-only
 returns-clause-only c = λ row h.

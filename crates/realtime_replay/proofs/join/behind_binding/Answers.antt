@@ -4,7 +4,8 @@ use Rattle.realtime_replay.proofs.Equal.{first_twice, members_twice, more}
 use Rattle.realtime_replay.proofs.join.behind_binding.Goals as goal
 
 pub returns-in_err-rest : goal.returns-in_err-rest
-returns-in_err-rest c = rw c.from_residual-in_err-rest.ensures (λ r h. c.in_err-rest.ensures _ (members_twice _ _ _ c.in_ok-members_of.ensures h))
+returns-in_err-rest c = rw c.from_residual-in_err-rest.ensures
+    (λ r h. c.in_err-rest.ensures _ (members_twice _ _ _ c.in_ok-members_of.ensures h))
 
 pub returns-in_err-rest-2 : goal.returns-in_err-rest-2
 returns-in_err-rest-2 c = rw c.from_residual-in_err-rest-2.ensures (λ r h.
@@ -18,4 +19,5 @@ returns-in_err-rest-3 c = rw c.from_residual-in_err-rest-3.ensures (λ r h.
     c.in_err-rest-3.ensures _ two.1)
 
 pub returns : goal.returns
-returns c = c.in_ok-members_of.ensures ∙ ap j.Object (c.in_ok-rest.ensures ∙ more _ (c.in_ok-rest-2.ensures ∙ more _ c.in_ok-rest-3.ensures))
+returns c = c.in_ok-members_of.ensures ∙ ap j.Object (c.in_ok-rest.ensures ∙ more _
+    (c.in_ok-rest-2.ensures ∙ more _ c.in_ok-rest-3.ensures))

@@ -4,7 +4,8 @@ use Rattle.realtime_replay.proofs.Equal.{empty_of, first_twice, members_twice, m
 use Rattle.realtime_replay.proofs.join.frame_parts.Goals as goal
 
 pub returns-in_err-topic : goal.returns-in_err-topic
-returns-in_err-topic c = rw c.from_residual-in_err-topic.ensures (λ t p r h. c.in_err-topic.ensures t _ (members_twice _ _ _ c.in_ok-members_of.ensures h))
+returns-in_err-topic c = rw c.from_residual-in_err-topic.ensures
+    (λ t p r h. c.in_err-topic.ensures t _ (members_twice _ _ _ c.in_ok-members_of.ensures h))
 
 pub returns-in_err-rest : goal.returns-in_err-rest
 returns-in_err-rest c = rw c.from_residual-in_err-rest.ensures (λ t p r h.
@@ -27,7 +28,9 @@ returns-in_err-reference c = rw c.from_residual-in_err-reference.ensures (λ t p
 pub returns-then-is_empty : goal.returns-then-is_empty
 returns-then-is_empty c =
     c.in_ok-members_of.ensures
-    ∙ ap j.Object (c.in_ok-topic.ensures ∙ more _ (c.in_ok-rest.ensures ∙ more _ (c.in_ok-payload.ensures ∙ more _ (c.in_ok-reference.ensures ∙ more _ (empty_of _ _ c.is_empty.ensures c.if-is_empty.true)))))
+    ∙ ap j.Object (c.in_ok-topic.ensures ∙ more _ (c.in_ok-rest.ensures ∙ more _
+        (c.in_ok-payload.ensures ∙ more _ (c.in_ok-reference.ensures ∙ more _
+        (empty_of _ _ c.is_empty.ensures c.if-is_empty.true)))))
 
 pub returns-else-is_empty : goal.returns-else-is_empty
 returns-else-is_empty c = λ t p r h.

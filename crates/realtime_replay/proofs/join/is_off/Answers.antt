@@ -8,5 +8,6 @@ use Rattle.realtime_replay.proofs.join.is_off.Goals as goal
 pub returns-in-Some : goal.returns-in-Some
 returns-in-Some c = (
   (λ t. c.in-Some.ensures ∙ ap (λ v. j.Object (field (codes "enabled") v ∷ [])) (c.is_false.ensures.0 t)),
-  (λ h. c.is_false.ensures.1 (first_twice _ _ _ _ _ _ (members_twice _ _ _ c.in-Some.ensures c.in-Some.ensures) (members_twice _ _ _ c.in-Some.ensures h)).0),
+  (λ h. c.is_false.ensures.1 (first_twice _ _ _ _ _ _ (members_twice _ _ _ c.in-Some.ensures c.in-Some.ensures)
+      (members_twice _ _ _ c.in-Some.ensures h)).0),
 )

@@ -9,4 +9,5 @@ returns-in_err-catalogue-clause-cause g c =
 
 pub returns-clause-found : goal.returns-clause-found
 returns-clause-found g c =
-    one_catalogue _ _ _ _ c.in_ok-text.ensures.whole c.get.ensures c.in_ok-catalogue.ensures.found c.in_ok-catalogue.ensures.only
+    one_catalogue _ _ _ _ c.in_ok-text.ensures.whole c.get.ensures
+    c.in_ok-catalogue.ensures.found c.in_ok-catalogue.ensures.only

@@ -3,4 +3,5 @@ use Rattle.realtime_replay.proofs.Lists.{cuts_at}
 use Rattle.realtime_replay.proofs.script.cut.Goals as goal
 
 pub returns : goal.returns
-returns c = cuts_at c.args.byte c.args.text.now c.split_once.result (split_parts c.args.byte c.args.text.now c.split_once.result c.split_once.ensures.cases c.requires)
+returns c = cuts_at c.args.byte c.args.text.now c.split_once.result
+    (split_parts c.args.byte c.args.text.now c.split_once.result c.split_once.ensures.cases c.requires)

@@ -4,4 +4,5 @@ use Rattle.realtime_replay.proofs.Lists.{lacks_or_has}
 use Rattle.realtime_replay.proofs.script.has_backslash.Goals as goal
 
 pub returns : goal.returns
-returns c = lacks_or_has 92 c.args.text.now c.contains.result (contains_char 92 c.args.text.now c.contains.result c.contains.ensures.cases (lit< tt))
+returns c = lacks_or_has 92 c.args.text.now c.contains.result
+    (contains_char 92 c.args.text.now c.contains.result c.contains.ensures.cases (lit< tt))

@@ -2,7 +2,8 @@ use Rattle.realtime_replay.proofs.Equal.{first_twice, members_twice, not_empty}
 use Rattle.realtime_replay.proofs.shapes.three_values.Goals as goal
 
 pub returns-in_err-a : goal.returns-in_err-a
-returns-in_err-a c = rw c.from_residual-in_err-a.ensures (λ a b d h. c.in_err-a.ensures a _ (members_twice _ _ _ c.in_ok-members_of.ensures h))
+returns-in_err-a c = rw c.from_residual-in_err-a.ensures
+    (λ a b d h. c.in_err-a.ensures a _ (members_twice _ _ _ c.in_ok-members_of.ensures h))
 
 pub returns-in_err-b : goal.returns-in_err-b
 returns-in_err-b c = rw c.from_residual-in_err-b.ensures (λ a b d h.
