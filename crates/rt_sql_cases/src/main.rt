@@ -1,13 +1,14 @@
 //! The tokens of each line of standard input, or the place of the first byte that begins none.
 #![tactic(auto)]
 
-use case_lines::answer_cases;
+use case_lines::{answer_cases, text_of};
 use rt_sql::{SqlFault, tokens};
 use std::alloc::Global;
 use std::fmt::Write;
 use std::io;
 
-fn tokens_of(alloc: Global, text: &str) -> io::Result<String> {
+fn tokens_of(alloc: Global, case: &[u8]) -> io::Result<String> {
+    let text = text_of(case)?;
     let mut answer = String::new(alloc);
     match tokens(alloc, text) {
         Ok(found) => {
