@@ -44,58 +44,58 @@ module _ {T : Type 0} where
 
   pub learns : (pass : ℕ) (v : Known T) → Learns IsKept pass v (Holds v)
   learns pass v items passes kept at =
-    let mine = kept.known_by pass v at in
-    record {
-      sent = kept.sent;
-      received = kept.received;
-      in_order = kept.in_order;
-      pushes = λ p. (mine.pushes p).1;
-      pops = λ p. (mine.pops p).1;
-    }
+      let mine = kept.known_by pass v at in
+      record {
+        sent = kept.sent;
+        received = kept.received;
+        in_order = kept.in_order;
+        pushes = λ p. (mine.pushes p).1;
+        pops = λ p. (mine.pops p).1;
+      }
 
   pub pushes : (n pass : ℕ) (v : Known T) (item : T) → v.pushes ≡ true → Pushes IsKept n pass v item (AddsSent v item)
   pushes n pass v item may items passes _ kept at =
-    let w : Known T = known v.pushes v.pops (v.sent ++ item ∷ []) v.received in
-    let mine = kept.known_by pass v at in
-    let sent = kept.sent ++ item ∷ [] in (
-      w,
-      record {
-        sender = kept.sender;
-        receiver = kept.receiver;
-        sent = sent;
-        received = kept.received;
-        in_order = ap (λ l. l ++ item ∷ []) kept.in_order ∙ append_assoc kept.received items (item ∷ []);
-        known_by = each-set (Knows kept.sender kept.receiver sent kept.received) passes pass w
-            (record { pushes = λ _. ((mine.pushes may).0, ap (λ l. l ++ item ∷ []) (mine.pushes may).1); pops = mine.pops })
-            (λ j u other e. record {
-              pushes = λ p. absurd (other (((kept.known_by j u e).pushes p).0 ∙ sym (mine.pushes may).0));
-              pops = (kept.known_by j u e).pops;
-            });
-      },
-      refl,
-    )
+      let w : Known T = known v.pushes v.pops (v.sent ++ item ∷ []) v.received in
+      let mine = kept.known_by pass v at in
+      let sent = kept.sent ++ item ∷ [] in (
+        w,
+        record {
+          sender = kept.sender;
+          receiver = kept.receiver;
+          sent = sent;
+          received = kept.received;
+          in_order = ap (λ l. l ++ item ∷ []) kept.in_order ∙ append_assoc kept.received items (item ∷ []);
+          known_by = each-set (Knows kept.sender kept.receiver sent kept.received) passes pass w
+              (record { pushes = λ _. ((mine.pushes may).0, ap (λ l. l ++ item ∷ []) (mine.pushes may).1); pops = mine.pops })
+              (λ j u other e. record {
+                pushes = λ p. absurd (other (((kept.known_by j u e).pushes p).0 ∙ sym (mine.pushes may).0));
+                pops = (kept.known_by j u e).pops;
+              });
+        },
+        refl,
+      )
 
   pub pops : (pass : ℕ) (v : Known T) → v.pops ≡ true → Pops IsKept pass v (AddsReceived v)
   pops pass v may item items passes kept at =
-    let w : Known T = known v.pushes v.pops v.sent (v.received ++ item ∷ []) in
-    let mine = kept.known_by pass v at in
-    let received = kept.received ++ item ∷ [] in (
-      w,
-      record {
-        sender = kept.sender;
-        receiver = kept.receiver;
-        sent = kept.sent;
-        received = received;
-        in_order = kept.in_order ∙ sym (append_assoc kept.received (item ∷ []) items);
-        known_by = each-set (Knows kept.sender kept.receiver kept.sent received) passes pass w
-            (record { pushes = mine.pushes; pops = λ _. ((mine.pops may).0, ap (λ l. l ++ item ∷ []) (mine.pops may).1) })
-            (λ j u other e. record {
-              pushes = (kept.known_by j u e).pushes;
-              pops = λ p. absurd (other (((kept.known_by j u e).pops p).0 ∙ sym (mine.pops may).0));
-            });
-      },
-      (refl, (items, learns pass v (item ∷ items) passes kept at)),
-    )
+      let w : Known T = known v.pushes v.pops v.sent (v.received ++ item ∷ []) in
+      let mine = kept.known_by pass v at in
+      let received = kept.received ++ item ∷ [] in (
+        w,
+        record {
+          sender = kept.sender;
+          receiver = kept.receiver;
+          sent = kept.sent;
+          received = received;
+          in_order = kept.in_order ∙ sym (append_assoc kept.received (item ∷ []) items);
+          known_by = each-set (Knows kept.sender kept.receiver kept.sent received) passes pass w
+              (record { pushes = mine.pushes; pops = λ _. ((mine.pops may).0, ap (λ l. l ++ item ∷ []) (mine.pops may).1) })
+              (λ j u other e. record {
+                pushes = (kept.known_by j u e).pushes;
+                pops = λ p. absurd (other (((kept.known_by j u e).pops p).0 ∙ sym (mine.pops may).0));
+              });
+        },
+        (refl, (items, learns pass v (item ∷ items) passes kept at)),
+      )
 
   -- after the first half of a parting: no pass may pop, and the old one alone may push
   record Parting (sender : ℕ) (sent : List T) (pass : ℕ) (v : Known T) : Type 0 where
@@ -104,45 +104,45 @@ module _ {T : Type 0} where
 
   pub parts : (pass : ℕ) (v : Known T) → v.pushes ≡ true → v.pops ≡ true → Forks IsKept pass v (known true false v.sent []) (known false true [] v.received)
   parts pass v may_push may_pop items passes kept at =
-    let left : Known T = known true false v.sent [] in
-    let right : Known T = known false true [] v.received in
-    let mine = kept.known_by pass v at in
-    let half : List (Known T) = set passes pass left in
-    let others : Each (Parting kept.sender kept.sent) half = each-set (Parting kept.sender kept.sent) passes pass left
-        (record { pushes = λ _. mine.pushes may_push; pops = λ p. true≢false (sym p) })
-        (λ j u other e. record { pushes = (kept.known_by j u e).pushes; pops = λ p. other (((kept.known_by j u e).pops p).0 ∙ sym (mine.pops may_pop).0) }) in
-    record {
-      sender = kept.sender;
-      receiver = length half;
-      sent = kept.sent;
-      received = kept.received;
-      in_order = kept.in_order;
-      known_by = λ j u e. ⊎_elim (λ x. record { pushes = (others j u x).pushes; pops = λ p. absurd ((others j u x).pops p) })
-          (λ (is : right ≡ u). record {
-            pushes = λ p. absurd (true≢false (sym (ap (λ (y : Known T). y.pushes) is ∙ p)));
-            pops = λ p. (at_end half right u j (λ x. (others j u x).pops p) e, ap (λ (y : Known T). y.received) (sym is) ∙ (mine.pops may_pop).1);
-          }) (at_snoc half right u j e);
-    }
+      let left : Known T = known true false v.sent [] in
+      let right : Known T = known false true [] v.received in
+      let mine = kept.known_by pass v at in
+      let half : List (Known T) = set passes pass left in
+      let others : Each (Parting kept.sender kept.sent) half = each-set (Parting kept.sender kept.sent) passes pass left
+      (record { pushes = λ _. mine.pushes may_push; pops = λ p. true≢false (sym p) })
+      (λ j u other e. record { pushes = (kept.known_by j u e).pushes; pops = λ p. other (((kept.known_by j u e).pops p).0 ∙ sym (mine.pops may_pop).0) }) in
+      record {
+        sender = kept.sender;
+        receiver = length half;
+        sent = kept.sent;
+        received = kept.received;
+        in_order = kept.in_order;
+        known_by = λ j u e. ⊎_elim (λ x. record { pushes = (others j u x).pushes; pops = λ p. absurd ((others j u x).pops p) })
+            (λ (is : right ≡ u). record {
+              pushes = λ p. absurd (true≢false (sym (ap (λ (y : Known T). y.pushes) is ∙ p)));
+              pops = λ p. (at_end half right u j (λ x. (others j u x).pops p) e, ap (λ (y : Known T). y.received) (sym is) ∙ (mine.pops may_pop).1);
+            }) (at_snoc half right u j e);
+      }
 
   pub joins : (pass : ℕ) (v : Known T) (other : ℕ) (u : Known T) → v.pushes ≡ true → u.pops ≡ true → Merges IsKept pass v other u (known true true v.sent u.received) (known false false [] [])
   joins pass v other u may_push may_pop items passes kept at two at' =
-    let both : Known T = known true true v.sent u.received in
-    let mine = kept.known_by pass v at in
-    let half : List (Known T) = set passes pass both in
-    let was : get_elem? passes other ≡ some u = ⊎_elim (λ x. absurd (two x.0)) (λ x. x.1) (at_set passes pass other both u at') in
-    let theirs = (kept.known_by other u was).pops may_pop in
-    let Now : ℕ → Known T → Type 0 = λ j y. j ≢ other → Knows kept.sender pass kept.sent kept.received j y in
-    let now : Each Now half = each-set Now passes pass both (λ _. record { pushes = λ _. mine.pushes may_push; pops = λ _. (refl, theirs.1) })
-        (λ j y _ e apart. record { pushes = (kept.known_by j y e).pushes; pops = λ p. absurd (apart (((kept.known_by j y e).pops p).0 ∙ sym theirs.0)) }) in
-    record {
-      sender = kept.sender;
-      receiver = pass;
-      sent = kept.sent;
-      received = kept.received;
-      in_order = kept.in_order;
-      known_by = each-set (Knows kept.sender pass kept.sent kept.received) half other (known false false [] [])
-          (spent_knows kept.sender pass kept.sent kept.received other [] []) (λ j y apart e. now j y e apart);
-    }
+      let both : Known T = known true true v.sent u.received in
+      let mine = kept.known_by pass v at in
+      let half : List (Known T) = set passes pass both in
+      let was : get_elem? passes other ≡ some u = ⊎_elim (λ x. absurd (two x.0)) (λ x. x.1) (at_set passes pass other both u at') in
+      let theirs = (kept.known_by other u was).pops may_pop in
+      let Now : ℕ → Known T → Type 0 = λ j y. j ≢ other → Knows kept.sender pass kept.sent kept.received j y in
+      let now : Each Now half = each-set Now passes pass both (λ _. record { pushes = λ _. mine.pushes may_push; pops = λ _. (refl, theirs.1) })
+      (λ j y _ e apart. record { pushes = (kept.known_by j y e).pushes; pops = λ p. absurd (apart (((kept.known_by j y e).pops p).0 ∙ sym theirs.0)) }) in
+      record {
+        sender = kept.sender;
+        receiver = pass;
+        sent = kept.sent;
+        received = kept.received;
+        in_order = kept.in_order;
+        known_by = each-set (Knows kept.sender pass kept.sent kept.received) half other (known false false [] [])
+            (spent_knows kept.sender pass kept.sent kept.received other [] []) (λ j y apart e. now j y e apart);
+      }
 
   -- what a pass that may push and pop knows of what is held: it is what was sent behind what was received
   held_behind : (v : Known T) (items : List T) → v.pushes ≡ true → v.pops ≡ true → Holds v items → v.received ++ items ≡ v.sent
@@ -157,7 +157,7 @@ module _ {T : Type 0} where
   still_whole v w None may_push may_pop before (same, _) = subst (λ (u : Known T). (u.pushes ≡ true) × (u.pops ≡ true) × IsPrefix u.received u.sent) (sym same) (may_push, may_pop, before)
   still_whole v w (Some item) may_push may_pop before (is, (items, holds)) =
       subst (λ (u : Known T). (u.pushes ≡ true) × (u.pops ≡ true) × IsPrefix u.received u.sent) (sym is)
-          (may_push, may_pop, (items, append_assoc v.received (item ∷ []) items ∙ held_behind v (item ∷ items) may_push may_pop holds))
+      (may_push, may_pop, (items, append_assoc v.received (item ∷ []) items ∙ held_behind v (item ∷ items) may_push may_pop holds))
 
   -- such a pop finds nothing exactly where all that was sent was received
   pub none_left : (v w : Known T) (result : Option T) → v.pushes ≡ true → v.pops ≡ true
@@ -174,6 +174,6 @@ module _ {T : Type 0} where
   pub never_full : (v : Known T) (items : List T) → v ≡ known true true v.received v.received → length items ≡ 1 → Holds v items → ⊥
   never_full v items is one holds =
       let same : v.received ≡ v.received ++ items = sym (ap (λ (y : Known T). y.sent) is) ∙ holds.pushes (ap (λ (y : Known T). y.pushes) is) ∙ holds.in_order
-          ∙ ap (λ l. l ++ items) (sym (holds.pops (ap (λ (y : Known T). y.pops) is))) in
+      ∙ ap (λ l. l ++ items) (sym (holds.pops (ap (λ (y : Known T). y.pops) is))) in
       let longer : length v.received ≡ length v.received + length items = ap length same ∙ length-append v.received items in
       omega (arith, longer, one)

@@ -14,6 +14,6 @@ pub record Receiver (T : Type 0) : Type 0 where
   pub received : List T
 
 -- the joined ends: what was sent, and what of it was received
-pub record Both (T : Type 0) : Type 0 where
+pub record Joined (T : Type 0) : Type 0 where
   pub sent : List T
   pub received : List T

@@ -22,9 +22,9 @@ impl<T> Model for Settled<T> {
     ghost use mathlib.Core.List.{IsPrefix};
     ghost use Rattle.std.specs.Arc.{arc_value};
     ghost use Rattle.crossbeam_queue.specs.Passes.{view as known_by, IsPassOf};
-    ghost use Rattle.rt_fifo.specs.Ends.{Both};
+    ghost use Rattle.rt_fifo.specs.Ends.{Joined};
 
-    ghost Value = { Both T };
+    ghost Value = { Joined T };
 
     ghost view = { λ s. record { sent = (known_by s.pass).sent; received = (known_by s.pass).received } };
 
