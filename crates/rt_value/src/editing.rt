@@ -2,7 +2,8 @@ ghost use Rattle.std.specs.Prelude.{◌≡◌, IfOk, unwrap_or};
 ghost use Rattle.std.specs.Option.{option_copied};
 ghost use Rattle.rt_value.specs.declared.value.Value.TheVariants.{Null as null};
 ghost use Rattle.rt_value.specs.Rows.{row_at, values_at, rows_before, rows_with};
-ghost use Rattle.rt_value.specs.Edits.{filled, old_values, is_gone, row_of, rows_unmoved, edited_rows};
+ghost use Rattle.rt_value.specs.Edits.{filled, old_values, is_gone, row_of};
+ghost use Rattle.rt_value.specs.Edits.{rows_unmoved, edited_rows};
 
 use crate::{Edit, Key, List, Row, Value};
 use std::alloc::{AllocError, Global};

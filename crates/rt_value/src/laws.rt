@@ -1,7 +1,8 @@
 //! Laws of the definitions, for the proofs of the crates above. Each is a function with an empty
 //! body.
 
-ghost use Rattle.std.specs.Prelude.{◌≡◌, ◌≢◌, ◌↔◌, ℕ, true, ◌∷◌, List, Option, None, Some, option_map};
+ghost use Rattle.std.specs.Prelude.{◌≡◌, ◌≢◌, ◌↔◌, ℕ, true, ◌∷◌, List};
+ghost use Rattle.std.specs.Prelude.{Option, None, Some, option_map};
 ghost use Rattle.std.specs.Cmp.{IsTotalOrder};
 ghost use Rattle.std.specs.declared.cmp.Ordering.{Ordering};
 ghost use Rattle.rt_value.specs.declared.value.Value.{Value};
@@ -11,7 +12,8 @@ ghost use Rattle.rt_value.specs.declared.edit.Edit.{Edit};
 ghost use Rattle.rt_value.specs.declared.edit.Edit.TheVariants.{Put, Remove, Clear, Nothing};
 ghost use Rattle.rt_value.specs.Order.{compared, value_cmp, key_cmp, same_key};
 ghost use Rattle.rt_value.specs.Rows.{is_rising, row_at};
-ghost use Rattle.rt_value.specs.Edits.{TableEdit, filled, old_values, row_after, row_of, edited_rows, tables_after};
+ghost use Rattle.rt_value.specs.Edits.{TableEdit, filled, old_values, row_after, row_of};
+ghost use Rattle.rt_value.specs.Edits.{edited_rows, tables_after};
 
 /// The order of keys is total, and only equal keys tie.
 pub fn keys_are_ordered()
@@ -31,12 +33,15 @@ pub fn edit_of_another_table()
 /// What one more put does to the table: at the new key it leaves its cells, those that it does not
 /// give from the row that it moves, and at the old key no row, where that is another.
 pub fn one_more_put()
-    ensures new { (before : List TableEdit) (table : ℕ) (old : Option Key) (new : Key) (cells : List (Option Value)) →
+    ensures new { (before : List TableEdit) (table : ℕ)
+        (old : Option Key) (new : Key) (cells : List (Option Value)) →
         row_after ((table, Put old new cells) ∷ before) table new
         ≡ Some (filled cells (old_values old (row_after before table))) }
-    ensures moved { (before : List TableEdit) (table : ℕ) (old new : Key) (cells : List (Option Value)) →
+    ensures moved { (before : List TableEdit) (table : ℕ)
+        (old new : Key) (cells : List (Option Value)) →
         old ≢ new → row_after ((table, Put (Some old) new cells) ∷ before) table old ≡ None }
-    ensures others { (before : List TableEdit) (table : ℕ) (old : Option Key) (new key : Key) (cells : List (Option Value)) →
+    ensures others { (before : List TableEdit) (table : ℕ)
+        (old : Option Key) (new key : Key) (cells : List (Option Value)) →
         key ≢ new → old ≢ Some key →
         row_after ((table, Put old new cells) ∷ before) table key ≡ row_after before table key }
 {}
@@ -70,7 +75,8 @@ pub fn rows_after_edits()
 /// they are.
 pub fn tables_after_one_more()
     ensures edited { (before : List TableEdit) (table : ℕ) (edit : Edit) →
-        tables_after ((table, edit) ∷ before) table ≡ edited_rows edit (tables_after before table) }
+        tables_after ((table, edit) ∷ before) table
+        ≡ edited_rows edit (tables_after before table) }
     ensures others { (before : List TableEdit) (table other : ℕ) (edit : Edit) → table ≢ other →
         tables_after ((table, edit) ∷ before) other ≡ tables_after before other }
 {}

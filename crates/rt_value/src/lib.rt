@@ -16,8 +16,6 @@ mod rising;
 mod row;
 mod shared;
 mod sharing;
-#[cfg(test)]
-mod tests;
 mod text;
 mod value;
 
