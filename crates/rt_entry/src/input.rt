@@ -1,5 +1,5 @@
 use rt_change::Change;
-use rt_phx::Version;
+use rt_phx::{Posting, Version};
 use rt_value::{Bytes, Claims, List};
 
 /// What the journal takes.
@@ -19,6 +19,12 @@ pub enum Input {
     /// The client is gone.
     Gone {
         slot: u32,
+    },
+    /// A post over HTTP on a slot, which needn't be open: its claims, and its messages.
+    Post {
+        slot: u32,
+        claims: Claims,
+        messages: List<Posting>,
     },
     /// One batch of the stream, as the changes of its records.
     Poll {

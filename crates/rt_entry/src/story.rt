@@ -12,6 +12,17 @@ pub struct Opening {
     pub heard: u64,
 }
 
+/// What a channel is, and may do, by the claims that it has.
+#[derive(Drop)]
+pub struct Standing {
+    pub role: u32,
+    pub claims: Shared<Claims>,
+    /// Why a broadcast is denied; none where it may be sent.
+    pub send: Option<Text>,
+    /// Why a track is denied; none where it may be made.
+    pub track: Option<Text>,
+}
+
 /// An accepted join. A channel is named by its number, the join's in the journal.
 #[derive(Drop)]
 pub struct Channel {
@@ -19,8 +30,8 @@ pub struct Channel {
     pub slot: u32,
     pub topic: Text,
     pub join_ref: Json,
-    pub role: u32,
-    pub claims: Shared<Claims>,
+    /// By the claims of the join.
+    pub standing: Standing,
     pub bindings: List<Subscribed>,
     /// The id of the first binding. The ids run on from there.
     pub first_id: u64,
@@ -34,12 +45,11 @@ pub struct Channel {
     pub key: Text,
 }
 
-/// A channel that hasn't departed, with the role and the claims that it has now.
+/// A channel that hasn't departed, with the claims that it has now.
 #[derive(Drop)]
 pub struct Member {
     pub channel: Channel,
-    pub role: u32,
-    pub claims: Shared<Claims>,
+    pub standing: Standing,
 }
 
 /// What a channel tracks on its topic. The reference is the track's number in the journal.
@@ -68,11 +78,10 @@ pub enum Part {
         message: Message,
     },
     Joins(Channel),
-    /// A channel has a new role and new claims from here on.
+    /// A channel has new claims from here on.
     Renews {
         channel: u32,
-        role: u32,
-        claims: Shared<Claims>,
+        standing: Standing,
     },
     Tracks(Track),
     Untracks {

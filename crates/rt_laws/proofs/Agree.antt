@@ -133,6 +133,7 @@ module _ (c : Catalog) (s : Settings) where
   no_stop journal (Opened slot version claims) h here stays = tt
   no_stop journal (Frame slot bytes) h here stays = tt
   no_stop journal (Gone slot) h here stays = tt
+  no_stop journal (Post slot claims ps) h here stays = tt
   no_stop journal (Poll changes) h here stays = tt
   no_stop journal (Tick moment) h here stays = tt
 

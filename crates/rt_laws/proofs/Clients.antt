@@ -57,10 +57,11 @@ module _ (now : Now) (h : Member) (in_members : Among now.members h) (rises : Ri
     unfolding doings
     input_holds tables (Opened slot version claims) k = outside tables (Opened slot version claims) tt
     input_holds tables (Gone slot) k = outside tables (Gone slot) tt
+    input_holds tables (Post slot claims ps) k = outside tables (Post slot claims ps) tt
     input_holds tables (Poll changes) k = outside tables (Poll changes) tt
     input_holds tables (Tick moment) k = outside tables (Tick moment) tt
     input_holds tables (Frame slot bytes) k =
-        holds_frame now h in_members rises apart enabled chans refs small below earlier short topics c s slot bytes (opening_in now slot)
+        holds_frame now h in_members rises apart enabled chans refs small below earlier short topics c s tables slot bytes (opening_in now slot)
     input_holds tables Stop k = absurd k
 
 module _ (c : Catalog) (s : Settings) where

@@ -76,6 +76,7 @@ module _ (c : Catalog) (s : Settings) where
   input_answers lane now tables (Opened n v claims) = lane_gives lane (answers_by c s now tables (Opened n v claims))
   input_answers lane now tables (Frame n bytes) = lane_gives lane (answers_by c s now tables (Frame n bytes))
   input_answers lane now tables (Gone n) = lane_gives lane (answers_by c s now tables (Gone n))
+  input_answers lane now tables (Post n claims ps) = lane_gives lane (answers_by c s now tables (Post n claims ps))
   input_answers lane now tables (Tick m) = lane_gives lane (answers_by c s now tables (Tick m))
 
   pub entries_answer : (before : List Input) (i : Input) (lane : ℕ)

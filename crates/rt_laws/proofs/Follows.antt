@@ -94,10 +94,21 @@ module _ (now : Now) (h : Member) (in_members : Among now.members h) (rises : Ri
           | false ↦ all_flat IsMute (change_parts_to c s subs tables ch) views (λ to. mute_change to ch (filter (gets c s tables ch to.channel) subs))
         ]
 
+    mute_post : (tables : List (List Row)) (claims : Claims) (ps : List Posting) → AllOf IsMute (post_parts c s now tables claims ps)
+    mute_post tables claims ps =
+        let may = filter (may_post c s now tables claims) ps in
+        elim (is_expired (seconds_of now.moment) claims.exp) as
+        (λ t. AllOf IsMute (elim t [ true ↦ [] | false ↦ flat_map (posting_parts now) may ])) [
+          | true ↦ tt
+          | false ↦ all_flat IsMute (posting_parts now) may (λ p. all_map IsMute (broadcast_part (posted_payload p))
+              (filter (λ (g : Member). is_on (channel_topic p) g.channel) now.members) (λ g. (refl, refl)))
+        ]
+
     pub outside_turn : (tables : List (List Row)) (i : Input) → IsOutside i → Turn (doings c s now tables i) []
     unfolding doings poll_parts
     outside_turn tables (Opened slot version claims) k = open_turn slot (opening_of now version claims)
     outside_turn tables (Gone slot) k = end_if_turn slot end_name.Gone (opening_in now slot)
+    outside_turn tables (Post slot claims ps) k = mute_turn (post_parts c s now tables claims ps) [] (mute_post tables claims ps)
     outside_turn tables (Poll changes) k =
         let subs = subscriptions now.members in
         let views = map view_of now.members in

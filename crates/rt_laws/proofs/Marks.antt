@@ -105,6 +105,7 @@ module _ (c : Catalog) (s : Settings) where
   marks_told l slot e now tables (Opened n v claims) = of_lane_told l slot e (answers_by c s now tables (Opened n v claims))
   marks_told l slot e now tables (Frame n bytes) = of_lane_told l slot e (answers_by c s now tables (Frame n bytes))
   marks_told l slot e now tables (Gone n) = of_lane_told l slot e (answers_by c s now tables (Gone n))
+  marks_told l slot e now tables (Post n claims ps) = of_lane_told l slot e (answers_by c s now tables (Post n claims ps))
   marks_told l slot e now tables (Tick m) = of_lane_told l slot e (answers_by c s now tables (Tick m))
 
   marks_of_told : (l slot : ℕ) → slot % s.workers ≡ l → (before : List Input) (i : Input)

@@ -195,8 +195,9 @@ module _ (now : Now) (slot : ℕ) where
 
         by : (j : Input) → Goes now slot b (doings c s now tables j)
         by (Opened n version claims) = open_goes now slot b n (opening_of now version claims) (knows n) r
-        by (Frame n bytes) = frame_goes now slot below apart c s b n bytes (opening_in now n) (knows n) r
+        by (Frame n bytes) = frame_goes now slot below apart c s tables b n bytes (opening_in now n) (knows n) r
         by (Gone n) = end_if_goes now slot b n end_name.Gone (opening_in now n) (knows n) r
+        by (Post n claims ps) = goes_mild now slot b _ (mild_post now slot below apart c s b tables claims ps r)
         by (Poll changes) = goes_mild now slot b _ (mild_poll now slot below apart c s b tables changes r)
         by (Tick m) = ticks b m 0 now.opens [] (omega arith) holds r
         by Stop = (false, stops_end b 0 now.opens (omega arith) (omega arith) holds)

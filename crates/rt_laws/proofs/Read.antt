@@ -158,6 +158,7 @@ module _ (levels : ℕ) (read : List ℕ → Option Json) (reader : IsReader (su
 lines_fit : (c : Catalog) (i : Input) → IsOfLines c i → InputFits i
 lines_fit c (input.Poll changes) lines = all_of_lines c changes lines
 lines_fit c (input.Opened slot version claims) lines = tt
+lines_fit c (input.Post slot claims ps) lines = all_given IsPosted ps lines
 lines_fit c (input.Frame slot bytes) lines = tt
 lines_fit c (input.Gone slot) lines = tt
 lines_fit c (input.Tick n) lines = tt

@@ -92,9 +92,12 @@ module _ (c : Catalog) (s : Settings) (journal : List Input) where
     unfolding doings poll_parts now_of
     stays_shut (Opened n version claims) tables slot stop lt = opens_shut slot n (opening_of now version claims) stop lt
     stays_shut (Frame n bytes) tables slot stop lt =
-        nothing_said slot (frame_parts c s now n bytes (opening_in now n)) (ap (frame_parts c s now n bytes) (shut_in n))
+        nothing_said slot (frame_parts c s now tables n bytes (opening_in now n)) (ap (frame_parts c s now tables n bytes) (shut_in n))
     stays_shut (Gone n) tables slot stop lt =
         nothing_said slot (end_if_open now n end_name.Gone (opening_in now n)) (ap (end_if_open now n end_name.Gone) (shut_in n))
+    stays_shut (Post n claims ps) tables slot stop lt =
+        let h = story_shaped c s journal in
+        mild_leads slot false _ (mild_post now slot (held_below st h) (members_apart st h) c s false tables claims ps (remains slot lt))
     stays_shut (Poll changes) tables slot stop lt =
         let h = story_shaped c s journal in
         mild_leads slot false _ (mild_poll now slot (held_below st h) (members_apart st h) c s false tables changes (remains slot lt))
@@ -132,6 +135,7 @@ module _ (c : Catalog) (s : Settings) where
   led journal (Opened n version claims) slot shut e lt = led_later journal (Opened n version claims) slot (shut e) e lt
   led journal (Frame n bytes) slot shut e lt = led_later journal (Frame n bytes) slot (shut e) e lt
   led journal (Gone n) slot shut e lt = led_later journal (Gone n) slot (shut e) e lt
+  led journal (Post n claims ps) slot shut e lt = led_later journal (Post n claims ps) slot (shut e) e lt
   led journal (Poll changes) slot shut e lt = led_later journal (Poll changes) slot (shut e) e lt
   led journal (Tick m) slot shut e lt = led_later journal (Tick m) slot (shut e) e lt
 

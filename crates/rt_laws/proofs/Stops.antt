@@ -34,6 +34,7 @@ module _ (c : Catalog) (s : Settings) where
   one_input lane journal (Opened n version claims) = no_stop lane _
   one_input lane journal (Frame n bytes) = no_stop lane _
   one_input lane journal (Gone n) = no_stop lane _
+  one_input lane journal (Post n claims ps) = no_stop lane _
   one_input lane journal (Poll changes) = refl
   one_input lane journal (Tick m) = no_stop lane _
   one_input lane journal Stop =

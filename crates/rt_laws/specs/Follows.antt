@@ -17,6 +17,7 @@ abbrev pub IsOutside : Input → Type 0
 IsOutside (Opened slot version claims) = ⊤
 IsOutside (Frame slot bytes) = ⊥
 IsOutside (Gone slot) = ⊤
+IsOutside (Post slot claims ps) = ⊤
 IsOutside (Poll changes) = ⊤
 IsOutside (Tick moment) = ⊤
 IsOutside Stop = ⊥

@@ -1,5 +1,5 @@
 use rt_filter::{Test, Wanted};
-use rt_value::Text;
+use rt_value::{List, Text};
 
 /// A binding as a client asks for it.
 #[derive(Debug, Drop)]
@@ -8,7 +8,10 @@ pub struct Binding {
     pub wanted: Text,
     pub schema: Text,
     pub table: Option<Text>,
-    pub filter: Option<Text>,
+    /// The filters, as the client gave them: a list, or one text, or nothing.
+    pub filters: List<Text>,
+    /// Whether the client gave a list.
+    pub listed: bool,
 }
 
 /// A binding with what it means on the catalogue. No table means every table of the schema.
@@ -17,5 +20,6 @@ pub struct Subscribed {
     pub binding: Binding,
     pub wanted: Wanted,
     pub table: Option<u32>,
-    pub test: Option<Test>,
+    /// What the filters test. All of them have to pass.
+    pub tests: List<Test>,
 }

@@ -10,6 +10,9 @@ pub enum BindingWhy {
     Table,
     #[error("filter without table")]
     FilterNoTable,
+    /// There are more than 8 filters.
+    #[error("too many filters")]
+    TooManyFilters,
     #[error("bad filter")]
     Filter,
     /// No such column, or one that the role may not SELECT.

@@ -1,0 +1,35 @@
+/// The table `realtime.messages`, and the numbers of its columns `topic`, `extension` and `action`. A catalogue that has it has private channels alone.
+#[derive(Clone, Copy, Debug, Drop, PartialEq, Eq)]
+pub struct Messages {
+    pub table: u32,
+    pub topic: u32,
+    pub extension: u32,
+    pub action: u32,
+}
+
+/// Whether something is permitted on a topic, or the first reason why not.
+#[derive(Clone, Copy, Debug, Drop, PartialEq, Eq)]
+pub enum Right {
+    Yes,
+    /// The role may not SELECT one of the three columns.
+    NoPrivilege,
+    /// No policy for reading applies to the role.
+    NoPolicy,
+    /// No permissive policy is true.
+    NonePermits,
+    /// The number of the first restrictive policy, by name, that isn't true.
+    Restrictive(u32),
+}
+
+/// The four rights of a claim on a topic.
+#[derive(Clone, Copy, Debug, Drop, PartialEq, Eq)]
+pub struct Rights {
+    /// To join the channel, and hear its broadcasts.
+    pub join: Right,
+    /// To be told who is present.
+    pub presence: Right,
+    /// To send broadcasts.
+    pub send: Right,
+    /// To be present.
+    pub track: Right,
+}
