@@ -11,7 +11,7 @@ use Rattle.rt_phx.specs.declared.message.Message.{Message}
 use Rattle.rt_presence.specs.Trees.{Held}
 use Rattle.rt_catalog.specs.declared.catalog.Catalog.{Catalog}
 use Rattle.rt_entry.specs.declared.input.Input.{Input}
-use Rattle.rt_entry.specs.declared.input.Input.TheVariants.{Opened, Frame, Gone, Poll, Tick, Stop}
+use Rattle.rt_entry.specs.declared.input.Input.TheVariants.{Opened, Frame, Gone, Poll, Tick, Stop, Post}
 use Rattle.rt_entry.specs.declared.input.Settings.{Settings}
 use Rattle.rt_entry.specs.declared.story.Channel.{Channel}
 use Rattle.rt_entry.specs.declared.story.Member.{Member}

@@ -5,18 +5,23 @@ use Rattle.std.specs.List.{filter, flat_map, enumerate_from}
 use Rattle.std.specs.Str.{bytes_eq}
 use Rattle.rt_value.specs.declared.row.Row.{Row}
 use Rattle.rt_value.specs.Choice.{first_case}
-use Rattle.rt_value.proofs.Plain.{AllOf, all_append, all_flat, all_map, all_map_of, all_filter, all_every, Maybe, find_of}
+use Rattle.rt_value.proofs.Plain.{AllOf, all_append, all_flat, all_map, all_map_of, all_filter, all_every, Maybe, find_of, all_flat_of}
+use Rattle.rt_value.specs.declared.claims.Claims.{Claims}
 use Rattle.rt_json.specs.declared.tree.Json.{Json}
 use Rattle.rt_json.specs.Fits.{FitsWithin}
 use Rattle.rt_json.specs.Lookup.{member_of}
+use Rattle.rt_token.specs.Claims.{is_expired}
+use Rattle.rt_token.specs.Asked.{seconds_of}
 use Rattle.rt_phx.specs.declared.message.Message.{Message}
 use Rattle.rt_phx.specs.declared.end.EndName.{EndName}
 use Rattle.rt_phx.specs.declared.end.EndName.TheVariants as end_name
-use Rattle.rt_phx.specs.Fits.{IsRef}
+use Rattle.rt_phx.specs.Fits.{IsRef, IsPosted}
 use Rattle.rt_phx.specs.Frame.{message_of, no_members}
 use Rattle.rt_phx.specs.Says.{reply_ok, reply_error}
 use Rattle.rt_phx.specs.Asks.{Ask, leave, renew, track, untrack, unknown_presence, nothing, ask_of, presence_ask, presence_event, tracked_tree, event_is, is_presence, not_null, is_heartbeat, is_join, is_channel_topic}
 use Rattle.rt_phx.specs.Asks as ask
+use Rattle.rt_phx.specs.declared.message.Posting.{Posting}
+use Rattle.rt_phx.specs.Posts.{channel_topic, posted_payload}
 use Rattle.rt_filter.specs.declared.subscription.Subscription.{Subscription}
 use Rattle.rt_catalog.specs.declared.catalog.Catalog.{Catalog}
 use Rattle.rt_private.specs.Names.{HasReadableTexts}
@@ -25,7 +30,7 @@ use Rattle.rt_change.specs.Verdicts.{is_truncate}
 use Rattle.rt_change.specs.Shape.{shape_of}
 use Rattle.rt_registry.specs.Bindings.{subscription_of}
 use Rattle.rt_entry.specs.declared.input.Input.{Input}
-use Rattle.rt_entry.specs.declared.input.Input.TheVariants.{Opened, Frame, Gone, Poll, Tick, Stop}
+use Rattle.rt_entry.specs.declared.input.Input.TheVariants.{Opened, Frame, Gone, Poll, Tick, Stop, Post}
 use Rattle.rt_entry.specs.declared.input.Settings.{Settings}
 use Rattle.rt_entry.specs.declared.story.Opening.{Opening}
 use Rattle.rt_entry.specs.declared.story.Standing.{Standing}
@@ -39,7 +44,7 @@ use Rattle.rt_entry.specs.Story.{Now, departed_in, has}
 use Rattle.rt_entry.specs.Messages.{subscribed_message, presence_state, joined_response}
 use Rattle.rt_entry.specs.Readable.{IsReadable}
 use Rattle.rt_entry.specs.Joining.{Checked, channel_of_join, renewal_of}
-use Rattle.rt_entry.specs.Doings.{tell, in_turn, opening_in, is_of_slot, is_on, channels_of, channel_on, track_of, watches, diff_to, diffs, leave_diffs, depart, end_of, end_if_open, close, fail, tell_if, open_parts, has_bindings, present_on, join_result_parts, others, renewal_parts, gets_broadcast, broadcast_part, broadcast_parts, track_by, track_parts, untrack_part, untrack_parts, is_shut, is_idle, has_run_out, tick_parts, departs_of, stop_parts, subscriptions_of, subscriptions, view_of, opening_of, join_over_former, join_parts, ask_parts, channel_parts, message_parts, frame_parts, gets, change_parts, change_parts_to, change_parts_to_all, poll_parts, doings}
+use Rattle.rt_entry.specs.Doings.{tell, in_turn, opening_in, is_of_slot, is_on, channels_of, channel_on, track_of, watches, diff_to, diffs, leave_diffs, depart, end_of, end_if_open, close, fail, tell_if, open_parts, has_bindings, present_on, join_result_parts, others, renewal_parts, gets_broadcast, broadcast_part, broadcast_parts, track_by, track_parts, untrack_part, untrack_parts, is_shut, is_idle, has_run_out, tick_parts, departs_of, stop_parts, subscriptions_of, subscriptions, view_of, opening_of, join_over_former, join_parts, ask_parts, channel_parts, message_parts, frame_parts, gets, change_parts, change_parts_to, change_parts_to_all, poll_parts, doings, posting_parts, post_parts, may_post, permitted_parts, judged_parts, denied_ask}
 use Rattle.rt_laws.proofs.Shapes.{option_all}
 use Rattle.rt_laws.proofs.Fitting.{object_fits, member_fits_in}
 use Rattle.rt_laws.proofs.Texts.{word}

@@ -8,6 +8,7 @@ use Rattle.std.proofs.lemmas.Slice.Eq.{bytes_eq-Decides}
 use Rattle.rt_value.proofs.Among.{Among}
 use Rattle.rt_value.proofs.Plain.{AllOf, Maybe, all_append, all_every, all_filter, all_map, all_weaker, all_among, all_themselves, any_append, filter_and, filter_alike, filter_all, find_of}
 use Rattle.rt_value.proofs.Moves.{Moves, then_to, moves_same}
+use Rattle.rt_value.specs.declared.row.Row.{Row}
 use Rattle.rt_json.specs.declared.tree.Json.{Json}
 use Rattle.rt_phx.specs.declared.message.Message.{Message}
 use Rattle.rt_phx.specs.declared.end.EndName.TheVariants as end_name
@@ -28,7 +29,7 @@ use Rattle.rt_entry.specs.declared.story.Part.TheVariants.{Tells, Joins, Renews,
 use Rattle.rt_entry.specs.Story.{Now, has, departed_by, departed_in, is_last}
 use Rattle.rt_entry.specs.Messages.{presence_state, presence_diff, subscribed_message, joined_response, shown_meta}
 use Rattle.rt_entry.specs.Joining.{Checked, channel_of_join, renewal_of}
-use Rattle.rt_entry.specs.Doings.{tell, in_turn, watches, is_of_slot, channels_of, end_of, is_on, channel_on, track_of, diffs, leave_diffs, close, fail, tell_if, has_bindings, present_on, accept_parts, join_result_parts, others, renewal_parts, gets_broadcast, broadcast_part, broadcast_parts, track_by, track_parts, untrack_part, is_shut, join_over_former, join_parts, ask_parts, channel_parts, message_parts, frame_parts}
+use Rattle.rt_entry.specs.Doings.{tell, in_turn, watches, is_of_slot, channels_of, end_of, is_on, channel_on, track_of, diffs, leave_diffs, close, fail, tell_if, has_bindings, present_on, accept_parts, join_result_parts, others, renewal_parts, gets_broadcast, broadcast_part, broadcast_parts, track_by, track_parts, untrack_part, is_shut, join_over_former, join_parts, ask_parts, channel_parts, message_parts, frame_parts, permitted_parts, judged_parts, denied_ask}
 use Rattle.rt_entry.specs.Presence.{after_message, client_view}
 use Rattle.rt_laws.specs.After.{tracks_in, tracks_after}
 use Rattle.rt_laws.specs.Departures.{leave_for}

@@ -17,7 +17,7 @@ use Rattle.rt_json.specs.Written.{written}
 use Rattle.rt_phx.specs.declared.message.Message.{Message}
 use Rattle.rt_phx.specs.declared.message.Version.{Version}
 use Rattle.rt_phx.specs.declared.message.Version.TheVariants.{V1, V2}
-use Rattle.rt_phx.specs.Fits.{IsRef}
+use Rattle.rt_phx.specs.Fits.{IsRef, IsPosted}
 use Rattle.rt_phx.specs.Frame.{ref_of, no_members, message, message_of_five, message_of_tree, spelled, tree_of_message}
 use Rattle.rt_catalog.specs.declared.catalog.Catalog.{Catalog}
 use Rattle.rt_entry.specs.declared.input.Input.{Input}

@@ -10,14 +10,18 @@ use Rattle.rt_value.specs.declared.claims.Claims.{Claims}
 use Rattle.rt_value.proofs.Among.{Among, among_filter, filter_among}
 use Rattle.rt_value.proofs.Plain.{AllOf, all_append, all_flat, all_map, all_map_of, all_filter, all_every, all_among, all_themselves, Maybe, find_of, any_among}
 use Rattle.rt_json.specs.Lookup.{member_of}
+use Rattle.rt_token.specs.Claims.{is_expired}
+use Rattle.rt_token.specs.Asked.{seconds_of}
 use Rattle.rt_phx.specs.declared.message.Message.{Message}
 use Rattle.rt_phx.specs.declared.end.EndName.{EndName}
 use Rattle.rt_phx.specs.declared.end.EndName.TheVariants as end_name
 use Rattle.rt_phx.specs.Frame.{message_of, no_members}
 use Rattle.rt_phx.specs.Joins.{Config, config_of}
 use Rattle.rt_phx.specs.Says.{reply_ok, reply_error}
-use Rattle.rt_phx.specs.Asks.{Ask, leave, renew, track, untrack, unknown_presence, nothing, ask_of, is_heartbeat, is_join, is_channel_topic}
+use Rattle.rt_phx.specs.Asks.{Ask, leave, renew, track, untrack, unknown_presence, nothing, ask_of, is_heartbeat, is_join, is_channel_topic, name_in}
 use Rattle.rt_phx.specs.Asks as ask
+use Rattle.rt_phx.specs.declared.message.Posting.{Posting}
+use Rattle.rt_phx.specs.Posts.{channel_topic, posted_payload}
 use Rattle.rt_filter.specs.declared.subscription.Subscription.{Subscription}
 use Rattle.rt_catalog.specs.declared.catalog.Catalog.{Catalog}
 use Rattle.rt_change.specs.declared.change.Change.{Change}
@@ -25,7 +29,7 @@ use Rattle.rt_change.specs.Verdicts.{is_truncate}
 use Rattle.rt_registry.specs.declared.binding.Subscribed.{Subscribed}
 use Rattle.rt_registry.specs.Bindings.{role_for, bindings_for}
 use Rattle.rt_entry.specs.declared.input.Input.{Input}
-use Rattle.rt_entry.specs.declared.input.Input.TheVariants.{Opened, Frame, Gone, Poll, Tick, Stop}
+use Rattle.rt_entry.specs.declared.input.Input.TheVariants.{Opened, Frame, Gone, Poll, Tick, Stop, Post}
 use Rattle.rt_entry.specs.declared.input.Settings.{Settings}
 use Rattle.rt_entry.specs.declared.story.Opening.{Opening}
 use Rattle.rt_entry.specs.declared.story.Standing.{Standing}
@@ -37,8 +41,8 @@ use Rattle.rt_entry.specs.declared.story.Part.TheVariants.{Opens, Ends, Tells, J
 use Rattle.rt_entry.specs.declared.entry.ChannelView.{ChannelView}
 use Rattle.rt_entry.specs.Story.{Now, departed_in, has}
 use Rattle.rt_entry.specs.Messages.{subscribed_message, presence_state, joined_response}
-use Rattle.rt_entry.specs.Joining.{Checked, ◌>>◌, or_why, demand, told_by, registry_text, channel_limit, binding_of, key_of, join_ref_of, asked_claims, channel_of_join, renewal_of}
-use Rattle.rt_entry.specs.Doings.{tell, in_turn, opening_in, is_of_slot, is_on, channels_of, channel_on, track_of, watches, diff_to, diffs, leave_diffs, depart, end_of, end_if_open, close, fail, tell_if, open_parts, has_bindings, present_on, join_result_parts, others, renewal_parts, gets_broadcast, broadcast_part, broadcast_parts, track_by, untrack_part, untrack_parts, is_shut, is_idle, has_run_out, tick_parts, departs_of, stop_parts, subscriptions, view_of, opening_of, join_over_former, join_parts, ask_parts, channel_parts, message_parts, frame_parts, gets, change_parts, change_parts_to, change_parts_to_all, poll_parts, doings}
+use Rattle.rt_entry.specs.Joining.{Checked, ◌>>◌, or_why, demand, told_by, registry_text, channel_limit, binding_of, key_of, join_ref_of, asked_claims, channel_of_join, renewal_of, standing_for, is_as_private, has_presence}
+use Rattle.rt_entry.specs.Doings.{tell, in_turn, opening_in, is_of_slot, is_on, channels_of, channel_on, track_of, watches, diff_to, diffs, leave_diffs, depart, end_of, end_if_open, close, fail, tell_if, open_parts, has_bindings, present_on, join_result_parts, others, renewal_parts, gets_broadcast, broadcast_part, broadcast_parts, track_by, untrack_part, untrack_parts, is_shut, is_idle, has_run_out, tick_parts, departs_of, stop_parts, subscriptions, view_of, opening_of, join_over_former, join_parts, ask_parts, channel_parts, message_parts, frame_parts, gets, change_parts, change_parts_to, change_parts_to_all, poll_parts, doings, posting_parts, post_parts, may_post, permitted_parts, judged_parts, denied_ask}
 
 -- only a poll says changes
 abbrev pub Fine : Bool → Message → Type 0

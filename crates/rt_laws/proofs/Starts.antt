@@ -10,12 +10,17 @@ use Rattle.rt_value.specs.declared.row.Row.{Row}
 use Rattle.rt_value.proofs.Among.{Among}
 use Rattle.rt_value.proofs.Plain.{AllOf, all_append, all_flat, all_map, and_swap, filter_and, filter_same}
 use Rattle.rt_value.proofs.Moves.{Moves}
+use Rattle.rt_value.specs.declared.claims.Claims.{Claims}
+use Rattle.rt_token.specs.Claims.{is_expired}
+use Rattle.rt_token.specs.Asked.{seconds_of}
 use Rattle.rt_phx.specs.declared.message.Message.{Message}
 use Rattle.rt_phx.specs.declared.end.EndName.TheVariants as end_name
 use Rattle.rt_phx.specs.Frame.{message_of, no_members}
 use Rattle.rt_phx.specs.Says.{reply_ok, reply_error}
 use Rattle.rt_phx.specs.Asks.{Ask, leave, renew, track, untrack, unknown_presence, nothing, ask_of, is_heartbeat, is_join, is_channel_topic}
 use Rattle.rt_phx.specs.Asks as ask
+use Rattle.rt_phx.specs.declared.message.Posting.{Posting}
+use Rattle.rt_phx.specs.Posts.{channel_topic, posted_payload}
 use Rattle.rt_filter.specs.declared.subscription.Subscription.{Subscription}
 use Rattle.rt_presence.specs.Trees.{Held, metas_tree}
 use Rattle.rt_presence.specs.Reading.{metas_in}
@@ -24,7 +29,7 @@ use Rattle.rt_catalog.specs.declared.catalog.Catalog.{Catalog}
 use Rattle.rt_change.specs.declared.change.Change.{Change}
 use Rattle.rt_change.specs.Verdicts.{is_truncate}
 use Rattle.rt_entry.specs.declared.input.Input.{Input}
-use Rattle.rt_entry.specs.declared.input.Input.TheVariants.{Opened, Frame, Gone, Poll, Tick, Stop}
+use Rattle.rt_entry.specs.declared.input.Input.TheVariants.{Opened, Frame, Gone, Poll, Tick, Stop, Post}
 use Rattle.rt_entry.specs.declared.input.Settings.{Settings}
 use Rattle.rt_entry.specs.declared.story.Opening.{Opening}
 use Rattle.rt_entry.specs.declared.story.Standing.{Standing}
@@ -37,7 +42,7 @@ use Rattle.rt_entry.specs.declared.entry.ChannelView.{ChannelView}
 use Rattle.rt_entry.specs.Story.{Now, has, departed_by, departed_in, tracked_by, joined_by, is_last, standing_tracks}
 use Rattle.rt_entry.specs.Messages.{presence_state, subscribed_message, joined_response, shown_meta}
 use Rattle.rt_entry.specs.Joining.{Checked, channel_of_join, renewal_of}
-use Rattle.rt_entry.specs.Doings.{tell, in_turn, opening_in, channel_on, track_of, leave_diffs, end_of, end_if_open, close, tell_if, open_parts, has_bindings, present_on, accept_parts, join_result_parts, others, renewal_parts, gets_broadcast, broadcast_part, broadcast_parts, track_by, untrack_part, is_shut, tick_parts, stop_parts, subscriptions, view_of, opening_of, join_over_former, join_parts, ask_parts, channel_parts, message_parts, frame_parts, gets, change_parts, change_parts_to, change_parts_to_all, poll_parts, doings}
+use Rattle.rt_entry.specs.Doings.{tell, in_turn, opening_in, channel_on, track_of, leave_diffs, end_of, end_if_open, close, tell_if, open_parts, has_bindings, present_on, accept_parts, join_result_parts, others, renewal_parts, gets_broadcast, broadcast_part, broadcast_parts, track_by, untrack_part, is_shut, tick_parts, stop_parts, subscriptions, view_of, opening_of, join_over_former, join_parts, ask_parts, channel_parts, message_parts, frame_parts, gets, change_parts, change_parts_to, change_parts_to_all, poll_parts, doings, posting_parts, post_parts, may_post, permitted_parts, judged_parts, denied_ask, is_on}
 use Rattle.rt_entry.specs.Presence.{client_view}
 use Rattle.rt_laws.specs.After.{joins_of, tracks_in, tracks_after}
 use Rattle.rt_laws.proofs.Shapes.{AreApart, Below, IsMade, Plain, join_made, eqb_same, plain_end, plain_end_if, plain_open, plain_ticks, plain_stop}

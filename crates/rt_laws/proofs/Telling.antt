@@ -13,7 +13,7 @@ use Rattle.rt_entry.specs.declared.story.Part.{Part}
 use Rattle.rt_entry.specs.declared.story.Part.TheVariants.{Opens, Ends, Tells, Joins, Renews, Tracks, Untracks, Departs}
 use Rattle.rt_entry.specs.declared.answer.Answer.{Answer}
 use Rattle.rt_entry.specs.declared.answer.Answer.TheVariants as a
-use Rattle.rt_entry.specs.Story.{Now, now_of, joined_by, is_last, standing_tracks, all_tracks, members_at, joined, present_at, ids_given, tables_left}
+use Rattle.rt_entry.specs.Story.{Now, now_of, joined_by, is_last, standing_tracks, all_tracks, members_at, joined, present_at, ids_given, tables_left, renewed_by, first_or}
 use Rattle.rt_entry.specs.Doings.{story}
 use Rattle.rt_entry.specs.Answers.{answer_of, at_slot, told, answers_by, answers}
 use Rattle.rt_entry.specs.Presence.{said_by, said_since}
@@ -22,6 +22,7 @@ use Rattle.rt_entry.specs.Readable.{payload_levels, IsReadable}
 use Rattle.rt_value.proofs.Among.{from_contains}
 use Rattle.rt_laws.proofs.Clients.{story_length}
 use Rattle.rt_value.proofs.Plain.{AllOf, all_among, all_append, all_map_of, all_filter, Maybe}
+use Rattle.rt_entry.specs.declared.story.Standing.{Standing}
 use Rattle.rt_laws.proofs.Journals.{line_of, shape_next, story_shaped, story_grows}
 use Rattle.rt_laws.proofs.Sound.{joins_well}
 use Rattle.rt_laws.proofs.Outgoing.{StandingFits, ChannelFits, TrackFits}
