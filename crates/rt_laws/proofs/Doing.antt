@@ -5,7 +5,7 @@ use Rattle.std.specs.List.{filter, flat_map, enumerate_from}
 use Rattle.std.specs.Str.{bytes_eq}
 use Rattle.rt_value.specs.declared.row.Row.{Row}
 use Rattle.rt_value.specs.Choice.{first_case}
-use Rattle.rt_value.proofs.Plain.{AllOf, all_append, all_flat, all_map, all_map_of, all_filter, all_every, Maybe, find_of, all_flat_of}
+use Rattle.rt_value.proofs.Plain.{AllOf, all_append, all_flat, all_map, all_map_of, all_filter, all_every, Maybe, find_of}
 use Rattle.rt_value.specs.declared.claims.Claims.{Claims}
 use Rattle.rt_json.specs.declared.tree.Json.{Json}
 use Rattle.rt_json.specs.Fits.{FitsWithin}
@@ -38,18 +38,18 @@ use Rattle.rt_entry.specs.declared.story.Channel.{Channel}
 use Rattle.rt_entry.specs.declared.story.Member.{Member}
 use Rattle.rt_entry.specs.declared.story.Track.{Track}
 use Rattle.rt_entry.specs.declared.story.Part.{Part}
-use Rattle.rt_entry.specs.declared.story.Part.TheVariants.{Opens, Ends, Tells, Joins, Tracks}
+use Rattle.rt_entry.specs.declared.story.Part.TheVariants.{Opens, Ends, Tells, Joins, Renews, Tracks}
 use Rattle.rt_entry.specs.declared.entry.ChannelView.{ChannelView}
 use Rattle.rt_entry.specs.Story.{Now, departed_in, has}
 use Rattle.rt_entry.specs.Messages.{subscribed_message, presence_state, joined_response}
 use Rattle.rt_entry.specs.Readable.{IsReadable}
 use Rattle.rt_entry.specs.Joining.{Checked, channel_of_join, renewal_of}
 use Rattle.rt_entry.specs.Doings.{tell, in_turn, opening_in, is_of_slot, is_on, channels_of, channel_on, track_of, watches, diff_to, diffs, leave_diffs, depart, end_of, end_if_open, close, fail, tell_if, open_parts, has_bindings, present_on, join_result_parts, others, renewal_parts, gets_broadcast, broadcast_part, broadcast_parts, track_by, track_parts, untrack_part, untrack_parts, is_shut, is_idle, has_run_out, tick_parts, departs_of, stop_parts, subscriptions_of, subscriptions, view_of, opening_of, join_over_former, join_parts, ask_parts, channel_parts, message_parts, frame_parts, gets, change_parts, change_parts_to, change_parts_to_all, poll_parts, doings, posting_parts, post_parts, may_post, permitted_parts, judged_parts, denied_ask}
-use Rattle.rt_laws.proofs.Shapes.{option_all}
+use Rattle.rt_laws.proofs.Shapes.{option_all, all_flat_of}
 use Rattle.rt_laws.proofs.Fitting.{object_fits, member_fits_in}
 use Rattle.rt_laws.proofs.Texts.{word}
 use Rattle.rt_laws.proofs.Incoming.{unwrap_of, message_fits}
-use Rattle.rt_laws.proofs.Outgoing.{Small, SubscribedFits, ChannelFits, TrackFits, Numbered, numbered_all, ok_readable, error_readable, empty_readable, close_readable, subscribed_readable, failed_readable, joined_fits, broadcast_readable, state_readable, diff_readable, change_readable}
+use Rattle.rt_laws.proofs.Outgoing.{Small, SubscribedFits, StandingFits, ChannelFits, TrackFits, Numbered, numbered_all, ok_readable, error_readable, empty_readable, close_readable, subscribed_readable, failed_readable, joined_fits, posted_fits, broadcast_readable, state_readable, diff_readable, change_readable}
 use Rattle.rt_laws.proofs.Shaping.{ChangeFits, shape_fits}
 use Rattle.rt_laws.proofs.Accepting.{Told, NowFits, join_told, renewal_told}
 

@@ -30,7 +30,7 @@ use Rattle.rt_laws.proofs.Agree.{slots_open}
 use Rattle.rt_laws.proofs.Marks.{told_none, answers_none}
 use Rattle.rt_laws.proofs.Since.{told_by, told_parts, told_more}
 use Rattle.rt_laws.proofs.Turning.{Leads, Mild, left_append, leads_then, mild_leads, ends_leads, state_follows}
-use Rattle.rt_laws.proofs.Whole.{Remains, MaySay, Knows, Goes, more_gone, mild_turn, mild_fail, own_channels, may_say, end_mild, end_own, goes_mild, open_goes, end_if_goes, frame_goes, mild_poll}
+use Rattle.rt_laws.proofs.Whole.{Remains, MaySay, Knows, Goes, more_gone, mild_turn, mild_fail, own_channels, may_say, end_mild, end_own, goes_mild, open_goes, end_if_goes, frame_goes, mild_post, mild_poll}
 use Rattle.rt_laws.proofs.Turns.{same_true, other_false}
 
 no_say : (now : Now) (slot : ℕ) (b : Bool) (n : ℕ) → (n == slot) ≡ false → MaySay now slot b n

@@ -16,7 +16,9 @@ use Rattle.rt_json.specs.Fits.{FitsWithin}
 use Rattle.rt_json.specs.Lookup.{members_of}
 use Rattle.rt_json.specs.Trees.{field}
 use Rattle.rt_phx.specs.declared.message.Message.{Message}
-use Rattle.rt_phx.specs.Fits.{IsRef}
+use Rattle.rt_phx.specs.declared.message.Posting.{Posting}
+use Rattle.rt_phx.specs.Fits.{IsRef, IsPosted}
+use Rattle.rt_phx.specs.Posts.{posted_payload}
 use Rattle.rt_phx.specs.Frame.{no_members}
 use Rattle.rt_phx.specs.Says.{reply_payload, reply_ok, reason_of, reply_error, system_payload, number_tree}
 use Rattle.rt_presence.specs.Trees.{Held, is_kept, under_key, metas_of, metas_tree}
@@ -181,6 +183,16 @@ binding_fits n below b le h =
     (tree_member (suc n) (codes "filter") (filter_tree b.1.binding.listed b.1.binding.filters) refl
     (filters_tree n b.1.binding.listed b.1.binding.filters f.filters)) in
     object_fits (suc n) (front ++ filter) fits
+
+-- what the channels of a post are told
+pub posted_fits : (p : Posting) → IsPosted p → FitsWithin 63 (posted_payload p)
+posted_fits p is =
+    let payload = fits_up 1 61 p.payload is.payload in
+    object_fits 62
+    (field (codes "type") (Text (codes "broadcast")) ∷ field (codes "event") (Text p.event) ∷ field (codes "payload") p.payload ∷ []) (
+      text_member 62 (codes "type") (codes "broadcast") refl (word (codes "broadcast") refl),
+      (text_member 62 (codes "event") p.event refl is.event, ((word (codes "payload") refl, payload), tt)),
+    )
 
 module _ (ch : Channel) (f : ChannelFits ch) where
   on_channel : (event : List ℕ) (payload : Json) → list_all is_ascii_byte event ≡ true → FitsWithin 66 payload

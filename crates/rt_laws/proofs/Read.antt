@@ -1,6 +1,6 @@
 -- What a client holds by what its slot was given.
-use Rattle.std.proofs.Common.{◌≡◌, ℕ, suc, Bool, List, [], ◌∷◌, ◌++◌, map, Option, Some, None, refl, sym, ap, subst, ◌∙◌}
-use Rattle.std.specs.Prelude.{codes, unwrap_or, IsUtf8, IsPermutation}
+use Rattle.std.proofs.Common.{◌≡◌, ℕ, suc, Bool, List, [], ◌∷◌, ◌++◌, map, Option, Some, None, refl, sym, ap, subst, ◌∙◌, arith}
+use Rattle.std.specs.Prelude.{codes, unwrap_or, All, IsUtf8, IsPermutation}
 use Rattle.std.specs.List.{filter, filter_map, cons_option, AllByRecursion}
 use Rattle.std.specs.Str.{bytes_eq}
 use Rattle.std.proofs.lemmas.List.Elements.{filter-append, filter_map-append}
@@ -153,6 +153,10 @@ module _ (levels : ℕ) (read : List ℕ → Option Json) (reader : IsReader (su
       ap (client_view []) heard ∙ view_append [] early (map (read_as v) (messages_to ch said)) ∙ same_view v held (messages_to ch said) in
       let P : List Held → Type 0 = λ x. IsPermutation x present in
       subst P (sym is) (holds held)
+
+all_given : {A : Type 0} (B : A → Type 0) (xs : List A) → All B xs → AllOf B xs
+all_given B [] a = tt
+all_given B (x ∷ xs) a = (a 0 x (omega arith), all_given B xs (λ k d lt. a (suc k) d (omega arith)))
 
 -- changes of lines can be told
 lines_fit : (c : Catalog) (i : Input) → IsOfLines c i → InputFits i

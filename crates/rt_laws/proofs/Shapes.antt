@@ -131,6 +131,11 @@ pub option_all : {A : Type 0} (B : A → Type 0) (o : Option A) → Maybe B o �
 option_all B None h = tt
 option_all B (Some x) h = (h, tt)
 
+pub all_flat_of : {A C : Type 0} (B : A → Type 0) (D : C → Type 0) (f : C → List A) (xs : List C) → ((x : C) → D x → AllOf B (f x)) → AllOf D xs
+    → AllOf B (flat_map f xs)
+all_flat_of B D f [] h a = tt
+all_flat_of B D f (x ∷ xs) h a = all_append B (f x) (flat_map f xs) (h x a.0) (all_flat_of B D f xs h a.1)
+
 plain_turn : {A : Type 0} (n : ℕ) (act : List ℕ → A → List Part) (B : A → Type 0)
     → ((gone : List ℕ) (x : A) → B x → AllOf (Plain true n) (act gone x))
     → (gone : List ℕ) (xs : List A) → AllOf B xs → AllOf (Plain true n) (in_turn act gone xs)

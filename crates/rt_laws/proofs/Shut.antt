@@ -20,7 +20,7 @@ use Rattle.rt_laws.specs.Openings.{is_there, StoppedIsShut}
 use Rattle.rt_laws.proofs.Sound.{held_below, members_apart}
 use Rattle.rt_laws.proofs.Journals.{story_shaped}
 use Rattle.rt_laws.proofs.Turning.{Leads, mild_leads, opens_leads, ends_leads, state_follows}
-use Rattle.rt_laws.proofs.Whole.{Remains, mild_poll, open_other}
+use Rattle.rt_laws.proofs.Whole.{Remains, mild_post, mild_poll, open_other}
 use Rattle.rt_laws.proofs.Openings.{Holds, stops_end, opens_at, opens_many, there_heard, open_where}
 
 not_there : (o : Option Opening) → is_there o ≡ false → o ≡ None

@@ -36,16 +36,11 @@ use Rattle.rt_entry.specs.Messages.{subscribed_message, presence_state}
 use Rattle.rt_entry.specs.Joining.{Checked, channel_of_join, renewal_of}
 use Rattle.rt_entry.specs.Doings.{tell, in_turn, opening_in, is_of_slot, is_on, channels_of, channel_on, track_of, watches, diff_to, diffs, leave_diffs, depart, end_of, end_if_open, close, fail, tell_if, open_parts, has_bindings, present_on, join_result_parts, others, renewal_parts, gets_broadcast, broadcast_part, broadcast_parts, track_by, untrack_part, is_shut, subscriptions, view_of, join_over_former, join_parts, ask_parts, channel_parts, message_parts, frame_parts, gets, change_parts, change_parts_to, change_parts_to_all, posting_parts, post_parts, may_post, permitted_parts, judged_parts, denied_ask}
 use Rattle.rt_laws.specs.Openings.{is_there}
-use Rattle.rt_laws.proofs.Shapes.{AreApart, Below, IsMade, option_all, join_made, same_number}
+use Rattle.rt_laws.proofs.Shapes.{all_flat_of, AreApart, Below, IsMade, option_all, join_made, same_number}
 use Rattle.rt_laws.proofs.Turns.{or_second}
 use Rattle.rt_laws.proofs.Due.{and_parts}
 use Rattle.rt_laws.proofs.Turning.{Leads, Mild, leads_then, mild_leads, opens_leads, ends_leads}
 use Rattle.rt_laws.proofs.Untouched.{false_of}
-
-all_flat_of : {A C : Type 0} (B : A → Type 0) (D : C → Type 0) (f : C → List A) (xs : List C) → ((x : C) → D x → AllOf B (f x)) → AllOf D xs
-    → AllOf B (flat_map f xs)
-all_flat_of B D f [] h a = tt
-all_flat_of B D f (x ∷ xs) h a = all_append B (f x) (flat_map f xs) (h x a.0) (all_flat_of B D f xs h a.1)
 
 kept_each : {A : Type 0} (p : A → Bool) (xs : List A) → AllOf (λ x. Among xs x × (p x ≡ true)) (filter p xs)
 kept_each p xs =
@@ -202,7 +197,7 @@ module _ (now : Now) (slot : ℕ) where
   mild_broadcast : (b : Bool) (ch : Channel) (m : Message) → MaySay b ch.slot → Remains b [] → AllOf (Mild slot b) (broadcast_parts now ch m)
   mild_broadcast b ch m own r =
       let gets_it : Member → Bool = λ h. gets_broadcast ch h.channel in
-      all_append (Mild slot b) (tell_if ch.ack ch.slot (reply_ok ch.join_ref m no_members)) (map (broadcast_part m) (filter gets_it now.members))
+      all_append (Mild slot b) (tell_if ch.ack ch.slot (reply_ok ch.join_ref m no_members)) (map (broadcast_part m.payload) (filter gets_it now.members))
       (mild_tell_if b ch.ack ch.slot (reply_ok ch.join_ref m no_members) own)
       (all_map_of (Mild slot b) (λ h. Among now.members h × (gets_it h ≡ true)) (broadcast_part m.payload) (filter gets_it now.members)
       (λ h x e. r h x.0 (same_number h.channel.slot slot e) refl) (kept_each gets_it now.members))
