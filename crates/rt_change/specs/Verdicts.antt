@@ -1,6 +1,6 @@
 -- What a subscription gets of a change: the first line that applies, judged on the tables at the end of the change's poll (the profile's
 -- reading of WALRUS, `realtime.apply_rls`).
-use Rattle.std.specs.Prelude.{ℕ, Bool, true, false, ◌&&◌, not, List, [], ◌∷◌, Option, Some, None, option_map, unwrap_or}
+use Rattle.std.specs.Prelude.{ℕ, Bool, true, false, ◌&&◌, not, List, [], ◌∷◌, Option, Some, None, option_map}
 use Rattle.std.specs.List.{list_all}
 use Rattle.rt_value.specs.declared.value.Value.{Value}
 use Rattle.rt_value.specs.declared.row.Row.{Row}
@@ -15,7 +15,7 @@ use Rattle.rt_policy.specs.Visibility.{visibility}
 use Rattle.rt_filter.specs.declared.subscription.Wanted.{Wanted}
 use Rattle.rt_filter.specs.declared.subscription.Wanted.TheVariants as wanted
 use Rattle.rt_filter.specs.declared.subscription.Subscription.{Subscription}
-use Rattle.rt_filter.specs.Tests.{passes}
+use Rattle.rt_filter.specs.Tests.{all_pass}
 use Rattle.rt_catalog.specs.declared.catalog.Catalog.{Catalog}
 use Rattle.rt_catalog.specs.Access.{may_select, table_at, is_secured, who_is}
 use Rattle.rt_change.specs.declared.change.Verb.{Verb}
@@ -57,12 +57,12 @@ may_select_key c role table = list_all (may_select c role table) (table_at c tab
 abbrev pub hides_key : Catalog → ℕ → Change → Bool
 hides_key c role ch = writes ch.verb && not (may_select_key c role ch.table)
 
--- the cells that a filter asks: the new ones, of a delete the identity
+-- the cells that filters ask: the new ones, of a delete the identity
 abbrev pub filtered_cells : Change → List (Option Value)
 filtered_cells ch = elim (writes ch.verb) [ true ↦ ch.new | false ↦ ch.old ]
 
 abbrev pub passes_filter : Subscription → Change → Bool
-passes_filter s ch = unwrap_or (option_map (λ t. passes t (filtered_cells ch)) s.test) true
+passes_filter s ch = all_pass s.tests (filtered_cells ch)
 
 abbrev pub new_key : Edit → Option Key
 new_key (Put old new cells) = Some new

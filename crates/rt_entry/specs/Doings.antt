@@ -1,31 +1,38 @@
 -- What each input does, by cases, asked of all that stands before it (the Realtime protocol, "Channels", "Broadcast", "Presence", "Postgres Changes").
-use Rattle.std.specs.Prelude.{ℕ, ◌==◌, ◌+◌, nat_lt, nat_le, Bool, true, false, ◌&&◌, not, if◌then◌else◌, List, [], ◌∷◌, ◌++◌, map, length, codes, find, slice_get, Option, Some, None, option_to_list, Ok, Err}
+use Rattle.std.specs.Prelude.{ℕ, ◌==◌, ◌+◌, nat_lt, nat_le, Bool, true, false, ◌&&◌, ◌||◌, not, if◌then◌else◌, List, [], ◌∷◌, ◌++◌, map, length, codes, find, slice_get, Option, Some, None, is_none, option_to_list, Ok, Err}
 use Rattle.std.specs.List.{filter, flat_map, enumerate_from}
 use Rattle.std.specs.Str.{bytes_eq}
 use Rattle.rt_value.specs.declared.claims.Claims.{Claims}
 use Rattle.rt_value.specs.declared.row.Row.{Row}
+use Rattle.rt_value.specs.Choice.{is_at}
 use Rattle.rt_value.specs.Tables.{rows_of_table}
 use Rattle.rt_json.specs.declared.tree.Json.{Json}
 use Rattle.rt_token.specs.Asked.{seconds_of}
 use Rattle.rt_token.specs.Claims.{is_expired}
 use Rattle.rt_phx.specs.declared.message.Version.{Version}
 use Rattle.rt_phx.specs.declared.message.Message.{Message}
+use Rattle.rt_phx.specs.declared.message.Posting.{Posting}
 use Rattle.rt_phx.specs.declared.end.EndName.{EndName}
 use Rattle.rt_phx.specs.declared.end.EndName.TheVariants as end_name
 use Rattle.rt_phx.specs.Frame.{message_of, no_members}
 use Rattle.rt_phx.specs.Says.{reply_ok, reply_error}
 use Rattle.rt_phx.specs.Asks.{Ask, leave, renew, track, untrack, unknown_presence, nothing, ask_of, is_heartbeat, is_join, is_presence, is_channel_topic}
 use Rattle.rt_phx.specs.Asks as ask
+use Rattle.rt_phx.specs.Posts.{channel_topic, posted_payload}
 use Rattle.rt_filter.specs.declared.subscription.Subscription.{Subscription}
 use Rattle.rt_catalog.specs.declared.catalog.Catalog.{Catalog}
+use Rattle.rt_catalog.specs.Access.{role_named}
 use Rattle.rt_registry.specs.Bindings.{subscription_of, is_of_table}
+use Rattle.rt_private.specs.Rights as private
+use Rattle.rt_private.specs.Rights.{messages_of}
 use Rattle.rt_change.specs.declared.change.Change.{Change}
 use Rattle.rt_change.specs.Verdicts.{verdict_of, is_sent, is_truncate}
 use Rattle.rt_change.specs.Shape.{shape_of}
 use Rattle.rt_entry.specs.declared.input.Input.{Input}
-use Rattle.rt_entry.specs.declared.input.Input.TheVariants.{Opened, Frame, Gone, Poll, Tick, Stop}
+use Rattle.rt_entry.specs.declared.input.Input.TheVariants.{Opened, Frame, Gone, Post, Poll, Tick, Stop}
 use Rattle.rt_entry.specs.declared.input.Settings.{Settings}
 use Rattle.rt_entry.specs.declared.story.Opening.{Opening}
+use Rattle.rt_entry.specs.declared.story.Standing.{Standing}
 use Rattle.rt_entry.specs.declared.story.Channel.{Channel}
 use Rattle.rt_entry.specs.declared.story.Member.{Member}
 use Rattle.rt_entry.specs.declared.story.Track.{Track}
@@ -33,8 +40,8 @@ use Rattle.rt_entry.specs.declared.story.Part.{Part}
 use Rattle.rt_entry.specs.declared.story.Part.TheVariants.{Opens, Ends, Tells, Joins, Renews, Tracks, Untracks, Departs}
 use Rattle.rt_entry.specs.declared.entry.ChannelView.{ChannelView}
 use Rattle.rt_entry.specs.Messages.{close_message, subscribed_message, failed_message, joined_response, presence_state, presence_diff, broadcast_message, change_message}
-use Rattle.rt_entry.specs.Joining.{Checked, channel_of_join, renewal_of}
-use Rattle.rt_entry.specs.Story.{Story, Now, Standing, now_of, tables_left, has, departed_in}
+use Rattle.rt_entry.specs.Joining.{Checked, denied, channel_of_join, renewal_of}
+use Rattle.rt_entry.specs.Story.{Story, Now, now_of, tables_left, has, departed_in}
 
 abbrev pub tell : ℕ → Message → List Part
 tell slot m = Tells slot m ∷ []
@@ -137,20 +144,20 @@ others now slot topic = length (filter (λ h. not (is_on topic h.channel)) (chan
 
 -- access_token. Claims that pass are the channel's from here on, and nothing is sent; else the channel closes.
 abbrev pub renewal_parts : Now → Member → Checked Standing → List Part
-renewal_parts now h (Ok standing) = Renews h.channel.number standing.role standing.claims ∷ []
+renewal_parts now h (Ok standing) = Renews h.channel.number standing ∷ []
 renewal_parts now h (Err why) = fail now why [] h
 
 -- broadcast. Each other channel of the topic gets it, in join order, and this one where `self` is set.
 abbrev pub gets_broadcast : Channel → Channel → Bool
 gets_broadcast from to = if to.number == from.number then from.own else is_on from.topic to
 
-abbrev pub broadcast_part : Message → Member → Part
-broadcast_part m to = Tells to.channel.slot (broadcast_message to.channel m.payload)
+abbrev pub broadcast_part : Json → Member → Part
+broadcast_part payload to = Tells to.channel.slot (broadcast_message to.channel payload)
 
 abbrev pub broadcast_parts : Now → Channel → Message → List Part
 broadcast_parts now ch m =
     tell_if ch.ack ch.slot (reply_ok ch.join_ref m no_members)
-    ++ map (broadcast_part m) (filter (λ to. gets_broadcast ch to.channel) now.members)
+    ++ map (broadcast_part m.payload) (filter (λ to. gets_broadcast ch to.channel) now.members)
 
 -- presence
 abbrev pub track_by : Now → Channel → Json → Track
@@ -172,6 +179,12 @@ untrack_parts now ch m =
 abbrev pub leave_parts : Now → Member → Message → List Part
 leave_parts now h m = tell h.channel.slot (reply_ok h.channel.join_ref m no_members) ++ close now [] h
 
+-- why what a message asks for is denied on a private channel: a broadcast and a track need their rights
+abbrev pub denied_ask : Standing → Ask → Option (List ℕ)
+denied_ask x ask.broadcast = x.send
+denied_ask x (track tree) = x.track
+denied_ask x _ = None
+
 abbrev pub is_shut : Channel → Message → Bool
 is_shut ch m = is_presence m && not ch.presence
 
@@ -183,7 +196,7 @@ abbrev pub is_idle : ℕ → Opening → Bool
 is_idle moment o = nat_le (o.heard + idle_limit) moment
 
 abbrev pub has_run_out : ℕ → Member → Bool
-has_run_out moment h = is_expired (seconds_of moment) h.claims.exp
+has_run_out moment h = is_expired (seconds_of moment) h.standing.claims.exp
 
 abbrev pub tick_parts : Now → ℕ → List ℕ → ℕ × Option Opening → List Part
 tick_parts now moment gone (slot, None) = []
@@ -201,10 +214,14 @@ abbrev pub stop_parts : Now → ℕ × Option Opening → List Part
 stop_parts now (slot, None) = []
 stop_parts now (slot, Some o) = map departs_of (channels_of now slot) ++ Ends slot end_name.Stopped ∷ []
 
+-- Post. Each channel of the message's topic gets it, in join order.
+abbrev pub posting_parts : Now → Posting → List Part
+posting_parts now p = map (broadcast_part (posted_payload p)) (filter (λ to. is_on (channel_topic p) to.channel) now.members)
+
 -- the subscriptions of the members, by id
 abbrev pub subscriptions_of : Member → List Subscription
 subscriptions_of h =
-    map (subscription_of h.channel.number h.channel.slot h.role h.claims) (enumerate_from h.channel.first_id h.channel.bindings)
+    map (subscription_of h.channel.number h.channel.slot h.standing.role h.standing.claims) (enumerate_from h.channel.first_id h.channel.bindings)
 
 unfoldable pub subscriptions : List Member → List Subscription
 subscriptions members = flat_map subscriptions_of members
@@ -216,52 +233,79 @@ abbrev pub opening_of : Now → Version → Claims → Opening
 opening_of now version claims = record { version = version; claims = claims; heard = now.moment }
 
 module _ (c : Catalog) (s : Settings) where
-  abbrev pub join_over_former : Now → ℕ → Opening → Message → List Member → List Part
-  join_over_former now slot o m former =
-      in_turn (close now) [] former
-      ++ join_result_parts now slot (map (λ h. h.channel.number) former) m (channel_of_join c s now slot o (others now slot m.topic) m)
+  -- frames and posts are judged on the tables before them
+  module _ (now : Now) (tables : List (List Row)) where
+    abbrev pub join_over_former : ℕ → Opening → Message → List Member → List Part
+    join_over_former slot o m former =
+        in_turn (close now) [] former
+        ++ join_result_parts now slot (map (λ h. h.channel.number) former) m
+        (channel_of_join c tables s now slot o (others now slot m.topic) m)
 
-  abbrev pub join_parts : Now → ℕ → Opening → Message → List Part
-  join_parts now slot o m =
-      elim (is_channel_topic m.topic) [
-        | true ↦ join_over_former now slot o m (option_to_list (channel_on now slot m.topic))
-        | false ↦ tell slot (reply_error m.join_ref m (codes "unmatched topic"))
-      ]
+    abbrev pub join_parts : ℕ → Opening → Message → List Part
+    join_parts slot o m =
+        elim (is_channel_topic m.topic) [
+          | true ↦ join_over_former slot o m (option_to_list (channel_on now slot m.topic))
+          | false ↦ tell slot (reply_error m.join_ref m (codes "unmatched topic"))
+        ]
 
-  abbrev pub renew_parts : Now → Opening → Member → Option Json → List Part
-  renew_parts now o h None = []
-  renew_parts now o h (Some token) = renewal_parts now h (renewal_of c s now o h.channel token)
+    abbrev pub renew_parts : Opening → Member → Option Json → List Part
+    renew_parts o h None = []
+    renew_parts o h (Some token) = renewal_parts now h (renewal_of c tables s now o h.channel token)
 
-  -- what a message on a joined topic does
-  abbrev pub ask_parts : Now → Opening → Member → Message → Ask → List Part
-  ask_parts now o h m leave = leave_parts now h m
-  ask_parts now o h m (renew token) = renew_parts now o h token
-  ask_parts now o h m ask.broadcast = broadcast_parts now h.channel m
-  ask_parts now o h m (track tree) = track_parts now h.channel m (track_by now h.channel tree)
-  ask_parts now o h m untrack = untrack_parts now h.channel m
-  ask_parts now o h m unknown_presence = tell h.channel.slot (reply_error h.channel.join_ref m (codes "unknown presence event"))
-  ask_parts now o h m nothing = []
+    -- what a message on a joined topic does
+    abbrev pub ask_parts : Opening → Member → Message → Ask → List Part
+    ask_parts o h m leave = leave_parts now h m
+    ask_parts o h m (renew token) = renew_parts o h token
+    ask_parts o h m ask.broadcast = broadcast_parts now h.channel m
+    ask_parts o h m (track tree) = track_parts now h.channel m (track_by now h.channel tree)
+    ask_parts o h m untrack = untrack_parts now h.channel m
+    ask_parts o h m unknown_presence = tell h.channel.slot (reply_error h.channel.join_ref m (codes "unknown presence event"))
+    ask_parts o h m nothing = []
 
-  abbrev pub channel_parts : Now → ℕ → Opening → Message → Option Member → List Part
-  channel_parts now slot o m None = tell slot (reply_error m.join_ref m (codes "unmatched topic"))
-  channel_parts now slot o m (Some h) =
-      elim (is_shut h.channel m) [
-        | true ↦ tell slot (reply_error h.channel.join_ref m (codes "presence disabled"))
-        | false ↦ ask_parts now o h m (ask_of m)
-      ]
+    abbrev pub permitted_parts : Opening → Member → Message → List Part
+    permitted_parts o h m =
+        elim (is_shut h.channel m) [
+          | true ↦ tell h.channel.slot (reply_error h.channel.join_ref m (codes "presence disabled"))
+          | false ↦ ask_parts o h m (ask_of m)
+        ]
 
-  -- Frame. A bad one ends the opening.
-  abbrev pub message_parts : Now → ℕ → Opening → Option Message → List Part
-  message_parts now slot o None = end_of now [] slot end_name.BadFrame
-  message_parts now slot o (Some m) =
-      if is_heartbeat m then tell slot (reply_ok m.join_ref m no_members)
-      else (if is_join m then join_parts now slot o m
-      else channel_parts now slot o m (channel_on now slot m.topic))
+    -- what is denied is answered with the reason, before all else
+    abbrev pub judged_parts : Opening → Member → Message → Option (List ℕ) → List Part
+    judged_parts o h m None = permitted_parts o h m
+    judged_parts o h m (Some why) = tell h.channel.slot (reply_error h.channel.join_ref m why)
 
-  -- a frame on a slot that isn't open does nothing
-  abbrev pub frame_parts : Now → ℕ → List ℕ → Option Opening → List Part
-  frame_parts now slot bytes None = []
-  frame_parts now slot bytes (Some o) = message_parts now slot o (message_of o.version bytes)
+    abbrev pub channel_parts : ℕ → Opening → Message → Option Member → List Part
+    channel_parts slot o m None = tell slot (reply_error m.join_ref m (codes "unmatched topic"))
+    channel_parts slot o m (Some h) = judged_parts o h m (denied_ask h.standing (ask_of m))
+
+    -- Frame. A bad one ends the opening.
+    abbrev pub message_parts : ℕ → Opening → Option Message → List Part
+    message_parts slot o None = end_of now [] slot end_name.BadFrame
+    message_parts slot o (Some m) =
+        if is_heartbeat m then tell slot (reply_ok m.join_ref m no_members)
+        else (if is_join m then join_parts slot o m
+        else channel_parts slot o m (channel_on now slot m.topic))
+
+    -- a frame on a slot that isn't open does nothing
+    abbrev pub frame_parts : ℕ → List ℕ → Option Opening → List Part
+    frame_parts slot bytes None = []
+    frame_parts slot bytes (Some o) = message_parts slot o (message_of o.version bytes)
+
+    -- a role has the right to send to a topic
+    abbrev pub may_send : Claims → List ℕ → ℕ → Bool
+    may_send claims name role = is_none (denied c tables role claims name private.send)
+
+    -- claims may post a message: always without a messages table, and else where their role is known and has the right to send to its topic
+    abbrev pub may_post : Claims → Posting → Bool
+    may_post claims p = is_none (messages_of c) || is_at (may_send claims p.topic) (role_named c claims.role)
+
+    -- Post. Claims that have run out say nothing; a message that they may not send is passed over.
+    abbrev pub post_parts : Claims → List Posting → List Part
+    post_parts claims ps =
+        elim (is_expired (seconds_of now.moment) claims.exp) [
+          | true ↦ []
+          | false ↦ flat_map (posting_parts now) (filter (may_post claims) ps)
+        ]
 
   -- Poll. A subscription of a channel gets the change, as it is or as an error.
   abbrev pub gets : List (List Row) → Change → ℕ → Subscription → Bool
@@ -286,8 +330,9 @@ module _ (c : Catalog) (s : Settings) where
   -- what an input does; the tables are those at the end of its poll
   unfoldable pub doings : Now → List (List Row) → Input → List Part
   doings now tables (Opened slot version claims) = open_parts now slot (opening_of now version claims)
-  doings now tables (Frame slot bytes) = frame_parts now slot bytes (opening_in now slot)
+  doings now tables (Frame slot bytes) = frame_parts now tables slot bytes (opening_in now slot)
   doings now tables (Gone slot) = end_if_open now slot end_name.Gone (opening_in now slot)
+  doings now tables (Post slot claims ps) = post_parts now tables claims ps
   doings now tables (Poll changes) = poll_parts (subscriptions now.members) tables (map view_of now.members) changes
   doings now tables (Tick m) = in_turn (tick_parts now m) [] (enumerate_from 0 now.opens)
   doings now tables Stop = flat_map (stop_parts now) (enumerate_from 0 now.opens)

@@ -4,7 +4,7 @@ use Rattle.std.specs.Prelude.{◌≡◌, ◌≢◌, ◌⊎◌, ℕ, ◌<◌, ◌
 use Rattle.rt_catalog.specs.declared.catalog.Catalog.{Catalog}
 use Rattle.rt_change.specs.Binding.{IsBound}
 use Rattle.rt_entry.specs.declared.input.Input.{Input}
-use Rattle.rt_entry.specs.declared.input.Input.TheVariants.{Opened, Frame, Gone, Poll, Tick, Stop}
+use Rattle.rt_entry.specs.declared.input.Input.TheVariants.{Opened, Frame, Gone, Post, Poll, Tick, Stop}
 use Rattle.rt_entry.specs.declared.input.Settings.{Settings}
 use Rattle.rt_entry.specs.declared.input.Step.{Step}
 use Rattle.rt_entry.specs.declared.input.Step.TheVariants.{Arrive, Feed, Take, TakeFeed, TakeClock, Send, Work, Push, Pop}
@@ -64,6 +64,7 @@ abbrev pub MayArrive : Input → Type 0
 MayArrive (Opened slot version claims) = slot < slot_count
 MayArrive (Frame slot bytes) = slot < slot_count
 MayArrive (Gone slot) = slot < slot_count
+MayArrive (Post slot claims ps) = slot < slot_count
 MayArrive _ = ⊥
 
 -- what may be fed, where m is the latest tick before: polls of changes that records are bound to, ticks no earlier, a stop
@@ -98,4 +99,5 @@ abbrev pub MayTake : Catalog → ℕ → Input → Type 0
 MayTake c m (Opened slot version claims) = slot < slot_count
 MayTake c m (Frame slot bytes) = slot < slot_count
 MayTake c m (Gone slot) = slot < slot_count
+MayTake c m (Post slot claims ps) = slot < slot_count
 MayTake c m i = MayFeed c m i

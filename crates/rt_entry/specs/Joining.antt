@@ -1,24 +1,30 @@
 -- Whether a join or a renewal is accepted, and what it makes of the channel; or the first reason against it (the Realtime protocol, "Joining a
 -- channel"; the reasons' texts are this project's).
-use Rattle.std.specs.Prelude.{ℕ, ◌+◌, nat_lt, Bool, true, false, not, List, [], ◌++◌, map, codes, Option, Some, None, Result, Ok, Err}
+use Rattle.std.specs.Prelude.{ℕ, ◌+◌, nat_lt, Bool, true, false, ◌&&◌, not, List, [], ◌++◌, map, codes, Option, Some, None, is_none, is_some, Result, Ok, Err}
 use Rattle.std.specs.Fmt.{decimal}
 use Rattle.std.specs.Str.{bytes_eq}
 use Rattle.rt_value.specs.declared.claims.Claims.{Claims}
+use Rattle.rt_value.specs.declared.row.Row.{Row}
+use Rattle.rt_value.specs.Tables.{rows_of_table}
 use Rattle.rt_json.specs.declared.tree.Json.{Json}
 use Rattle.rt_json.specs.Lookup.{member_of}
 use Rattle.rt_json.specs.Trees.{is_null}
 use Rattle.rt_token.specs.Asked.{claims_asked, seconds_of, fault_text}
 use Rattle.rt_phx.specs.declared.message.Message.{Message}
-use Rattle.rt_phx.specs.Joins.{Asked, config_of}
+use Rattle.rt_phx.specs.Joins.{Asked, Config, config_of}
+use Rattle.rt_phx.specs.Asks.{name_in}
 use Rattle.rt_catalog.specs.declared.catalog.Catalog.{Catalog}
 use Rattle.rt_registry.specs.declared.binding.Binding.{Binding}
 use Rattle.rt_registry.specs.declared.fault.RegistryFault.{RegistryFault}
 use Rattle.rt_registry.specs.declared.fault.RegistryFault.TheVariants.{NoMemory, UnknownRole, Limit, BadBinding}
 use Rattle.rt_registry.specs.Bindings.{role_for, bindings_for, why_text}
+use Rattle.rt_private.specs.Rights as private
+use Rattle.rt_private.specs.Rights.{Use, messages_of, denial}
 use Rattle.rt_entry.specs.declared.input.Settings.{Settings}
 use Rattle.rt_entry.specs.declared.story.Opening.{Opening}
+use Rattle.rt_entry.specs.declared.story.Standing.{Standing}
 use Rattle.rt_entry.specs.declared.story.Channel.{Channel}
-use Rattle.rt_entry.specs.Story.{Now, Standing}
+use Rattle.rt_entry.specs.Story.{Now}
 
 -- a value, or the reason that is told
 abbrev pub Checked : Type 0 → Type 0
@@ -52,7 +58,8 @@ abbrev pub channel_limit : ℕ
 channel_limit = 100
 
 abbrev pub binding_of : Asked → Binding
-binding_of a = record { wanted = a.event; schema = a.schema; table = a.table; filter = a.filter }
+binding_of a =
+    record { wanted = a.event; schema = a.schema; table = a.table; filters = a.filters.texts; listed = a.filters.listed }
 
 -- the key that a channel tracks under: without one, or with an empty one, the join's number
 abbrev pub key_of : ℕ → List ℕ → List ℕ
@@ -66,34 +73,66 @@ join_ref_of m = elim (is_null m.join_ref) [ true ↦ m.reference | false ↦ m.j
 abbrev pub asked_claims : Settings → Now → Opening → Option Json → Checked Claims
 asked_claims s now o token = told_by fault_text (claims_asked s.secret (seconds_of now.moment) o.claims token)
 
--- the channel that a join makes, or the first reason against it; `others` is how many channels the slot has beside one of the same topic
-unfoldable pub channel_of_join : Catalog → Settings → Now → ℕ → Opening → ℕ → Message → Checked Channel
-channel_of_join c s now slot o others m =
-    or_why (codes "bad config") (config_of m.payload) >> λ config.
-    demand (not config.private) (codes "private channel") >> λ _.
-    asked_claims s now o (member_of m.payload (codes "access_token")) >> λ claims.
-    told_by registry_text (role_for c claims) >> λ role.
-    demand (nat_lt others channel_limit) (codes "too many channels") >> λ _.
-    told_by registry_text (bindings_for c claims (map binding_of config.bindings)) >> λ bindings.
-    Ok (record {
-      number = now.number;
-      slot = slot;
-      topic = m.topic;
-      join_ref = join_ref_of m;
-      role = role;
-      claims = claims;
-      bindings = bindings;
-      first_id = now.ids + 1;
-      ack = config.ack;
-      own = config.own;
-      presence = config.presence;
-      key = key_of now.number config.key;
-    })
+-- nothing, where there is no reason
+abbrev pub unless : Option (List ℕ) → Checked Bool
+unless None = Ok true
+unless (Some why) = Err why
 
--- the role and the claims that a token gives a channel, or the first reason against them: the token, the role, the channel's bindings
-unfoldable pub renewal_of : Catalog → Settings → Now → Opening → Channel → Json → Checked Standing
-renewal_of c s now o ch token =
-    asked_claims s now o (Some token) >> λ claims.
-    told_by registry_text (role_for c claims) >> λ role.
-    told_by registry_text (bindings_for c claims (map (λ b. b.binding) ch.bindings)) >> λ _.
-    Ok (record { role = role; claims = claims })
+-- every channel is private where the catalogue has a messages table, and none where it hasn't
+abbrev pub is_as_private : Catalog → Bool → Bool
+is_as_private c true = is_some (messages_of c)
+is_as_private c false = is_none (messages_of c)
+
+module _ (c : Catalog) (tables : List (List Row)) where
+  -- why a use of a topic, by its name without `realtime:`, is denied
+  abbrev pub denied : ℕ → Claims → List ℕ → Use → Option (List ℕ)
+  denied role claims name use_ = denial c (rows_of_table tables) role claims name use_
+
+  -- what claims make of a channel of a topic, or the first reason against them: the role, the right to join
+  unfoldable pub standing_for : List ℕ → Claims → Checked Standing
+  standing_for name claims =
+      told_by registry_text (role_for c claims) >> λ role.
+      unless (denied role claims name private.join) >> λ _.
+      Ok (record {
+        role = role;
+        claims = claims;
+        send = denied role claims name private.send;
+        track = denied role claims name private.track;
+      })
+
+  -- presence is asked for, and its right is given
+  abbrev pub has_presence : Config → List ℕ → Standing → Bool
+  has_presence config name x = config.presence && is_none (denied x.role x.claims name private.presence)
+
+  module _ (s : Settings) (now : Now) where
+    -- The channel that a join makes, or the first reason against it. `others` is how many channels the slot has beside one of the same topic; the tables
+    -- are those before the join.
+    unfoldable pub channel_of_join : ℕ → Opening → ℕ → Message → Checked Channel
+    channel_of_join slot o others m =
+        or_why (codes "bad config") (config_of m.payload) >> λ config.
+        demand (is_as_private c config.private) (codes "private channel") >> λ _.
+        asked_claims s now o (member_of m.payload (codes "access_token")) >> λ claims.
+        standing_for (name_in m.topic) claims >> λ standing.
+        demand (nat_lt others channel_limit) (codes "too many channels") >> λ _.
+        told_by registry_text (bindings_for c claims (map binding_of config.bindings)) >> λ bindings.
+        Ok (record {
+          number = now.number;
+          slot = slot;
+          topic = m.topic;
+          join_ref = join_ref_of m;
+          standing = standing;
+          bindings = bindings;
+          first_id = now.ids + 1;
+          ack = config.ack;
+          own = config.own;
+          presence = has_presence config (name_in m.topic) standing;
+          key = key_of now.number config.key;
+        })
+
+    -- what a token makes of a channel, or the first reason against it: the token, the role, the right to join, the channel's bindings
+    unfoldable pub renewal_of : Opening → Channel → Json → Checked Standing
+    renewal_of o ch token =
+        asked_claims s now o (Some token) >> λ claims.
+        standing_for (name_in ch.topic) claims >> λ standing.
+        told_by registry_text (bindings_for c claims (map (λ b. b.binding) ch.bindings)) >> λ _.
+        Ok standing

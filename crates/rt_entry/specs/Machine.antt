@@ -4,7 +4,7 @@ use Rattle.std.specs.List.{list_any, filter, flat_map}
 use Rattle.rt_phx.specs.declared.end.EndName.TheVariants.{OutboxFull}
 use Rattle.rt_catalog.specs.declared.catalog.Catalog.{Catalog}
 use Rattle.rt_entry.specs.declared.input.Input.{Input}
-use Rattle.rt_entry.specs.declared.input.Input.TheVariants.{Opened, Frame, Gone, Poll, Tick}
+use Rattle.rt_entry.specs.declared.input.Input.TheVariants.{Opened, Frame, Gone, Post, Poll, Tick}
 use Rattle.rt_entry.specs.declared.input.Settings.{Settings}
 use Rattle.rt_entry.specs.declared.input.Step.{Step}
 use Rattle.rt_entry.specs.declared.input.Step.TheVariants.{Arrive, Feed, Take, TakeFeed, TakeClock, Send, Work, Push, Pop}
@@ -120,6 +120,7 @@ abbrev pub slot_of : Input → Option ℕ
 slot_of (Opened slot version claims) = Some slot
 slot_of (Frame slot bytes) = Some slot
 slot_of (Gone slot) = Some slot
+slot_of (Post slot claims ps) = Some slot
 slot_of _ = None
 
 abbrev pub is_tick : Input → Bool

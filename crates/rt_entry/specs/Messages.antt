@@ -1,5 +1,5 @@
 -- The messages of a channel (the Realtime protocol, "Channels" and "Presence").
-use Rattle.std.specs.Prelude.{ℕ, List, [], ◌∷◌, ◌++◌, map, drop, length, codes, Option, Some, None}
+use Rattle.std.specs.Prelude.{ℕ, Bool, true, false, List, [], ◌∷◌, ◌++◌, map, codes, Option, Some, None, option_map}
 use Rattle.std.specs.List.{enumerate_from}
 use Rattle.rt_json.specs.declared.tree.Json.{Json, Text}
 use Rattle.rt_json.specs.declared.tree.Json.TheVariants as j
@@ -7,7 +7,7 @@ use Rattle.rt_json.specs.declared.tree.named.Member.{Member}
 use Rattle.rt_json.specs.Trees.{field}
 use Rattle.rt_phx.specs.declared.message.Message.{Message}
 use Rattle.rt_phx.specs.Says.{said_on, close_of, subscribed_payload, failed_payload, number_tree, change_payload}
-use Rattle.rt_phx.specs.Asks.{topic_prefix}
+use Rattle.rt_phx.specs.Asks.{name_in}
 use Rattle.rt_presence.specs.Trees.{Held, meta_object, metas_tree, joins_and_leaves}
 use Rattle.rt_registry.specs.declared.binding.Subscribed.{Subscribed}
 use Rattle.rt_entry.specs.declared.story.Channel.{Channel}
@@ -20,9 +20,8 @@ channel_message c event payload = said_on c.join_ref c.topic event payload
 abbrev pub close_message : Channel → Message
 close_message c = close_of c.join_ref c.topic
 
--- the topic without `realtime:`
 abbrev pub channel_name : Channel → List ℕ
-channel_name c = drop (length topic_prefix) c.topic
+channel_name c = name_in c.topic
 
 abbrev pub subscribed_message : Channel → Message
 subscribed_message c = channel_message c (codes "system") (subscribed_payload (channel_name c))
@@ -30,15 +29,22 @@ subscribed_message c = channel_message c (codes "system") (subscribed_payload (c
 abbrev pub failed_message : Channel → List ℕ → Message
 failed_message c reason = channel_message c (codes "system") (failed_payload reason (channel_name c))
 
-abbrev pub text_field : List ℕ → Option (List ℕ) → List Member
-text_field name None = []
-text_field name (Some t) = field name (Text t) ∷ []
+-- filters as the client gave them
+abbrev pub filter_tree : Bool → List (List ℕ) → Option Json
+filter_tree true texts = Some (j.List (map Text texts))
+filter_tree false [] = None
+filter_tree false (text ∷ more) = Some (Text text)
 
--- a binding with its id; table and filter where the client gave them as texts
+abbrev pub tree_field : List ℕ → Option Json → List Member
+tree_field name None = []
+tree_field name (Some tree) = field name tree ∷ []
+
+-- a binding with its id; table and filters where the client gave them
 abbrev pub binding_tree : ℕ × Subscribed → Json
 binding_tree b =
     j.Object (field (codes "id") (number_tree b.0) ∷ field (codes "event") (Text b.1.binding.wanted) ∷ field (codes "schema") (Text b.1.binding.schema)
-    ∷ text_field (codes "table") b.1.binding.table ++ text_field (codes "filter") b.1.binding.filter)
+    ∷ tree_field (codes "table") (option_map Text b.1.binding.table)
+    ++ tree_field (codes "filter") (filter_tree b.1.binding.listed b.1.binding.filters))
 
 -- the response to an accepted join
 abbrev pub joined_response : Channel → Json

@@ -2,7 +2,6 @@
 -- stands before an input is the list behind it, and an input's number is the length of that list.
 use Rattle.std.specs.Prelude.{ℕ, ◌==◌, Bool, true, false, not, if◌then◌else◌, List, [], ◌∷◌, ◌++◌, map, reverse, length, Option, Some, None, option_map}
 use Rattle.std.specs.List.{list_any, filter, filter_map, flat_map, range_with_len}
-use Rattle.rt_value.specs.declared.claims.Claims.{Claims}
 use Rattle.rt_value.specs.declared.row.Row.{Row}
 use Rattle.rt_value.specs.Edits.{TableEdit, tables_after}
 use Rattle.rt_catalog.specs.declared.catalog.Catalog.{Catalog}
@@ -10,6 +9,7 @@ use Rattle.rt_change.specs.declared.change.Change.{Change}
 use Rattle.rt_entry.specs.declared.input.Input.{Input}
 use Rattle.rt_entry.specs.declared.input.Input.TheVariants.{Frame, Poll, Tick, Stop}
 use Rattle.rt_entry.specs.declared.story.Opening.{Opening}
+use Rattle.rt_entry.specs.declared.story.Standing.{Standing}
 use Rattle.rt_entry.specs.declared.story.Channel.{Channel}
 use Rattle.rt_entry.specs.declared.story.Member.{Member}
 use Rattle.rt_entry.specs.declared.story.Track.{Track}
@@ -85,25 +85,17 @@ departed story = flat_map (λ l. departed_in l.parts) story
 unfoldable pub members_at : Story → List Channel
 members_at story = filter (λ c. not (has c.number (departed story))) (joined story)
 
--- a role and claims
-pub record Standing : Type 0 where
-  pub role : ℕ
-  pub claims : Claims
-
 abbrev pub renewed_by : ℕ → Part → Option Standing
-renewed_by number (Renews n role claims) = if n == number then Some (record { role = role; claims = claims }) else None
+renewed_by number (Renews n standing) = if n == number then Some standing else None
 renewed_by number _ = None
 
 abbrev pub first_or : {A : Type 0} → A → List A → A
 first_or d [] = d
 first_or d (x ∷ xs) = x
 
-abbrev pub standing_of : Channel → Standing
-standing_of c = record { role = c.role; claims = c.claims }
-
--- the role and the claims of a channel's last renewal, or else of its join
-unfoldable pub claims_at : Story → Channel → Standing
-claims_at story c = first_or (standing_of c) (flat_map (λ l. filter_map (renewed_by c.number) l.parts) story)
+-- by the claims of a channel's last renewal, or else of its join
+unfoldable pub standing_at : Story → Channel → Standing
+standing_at story c = first_or c.standing (flat_map (λ l. filter_map (renewed_by c.number) l.parts) story)
 
 -- how many bindings the accepted joins had
 unfoldable pub ids_given : Story → ℕ
@@ -174,7 +166,7 @@ pub record Now : Type 0 where
   pub ids : ℕ
 
 abbrev pub member_in : Story → Channel → Member
-member_in story c = record { channel = c; role = (claims_at story c).role; claims = (claims_at story c).claims }
+member_in story c = record { channel = c; standing = standing_at story c }
 
 unfoldable pub now_of : Story → Now
 now_of story =

@@ -1,5 +1,5 @@
 use rt_change::Change;
-use rt_phx::Version;
+use rt_phx::{Posting, Version};
 use rt_value::{Bytes, Claims, List};
 
 /// What the journal takes.
@@ -25,6 +25,15 @@ pub enum Input {
     Gone {
         /// Which slot.
         slot: u32,
+    },
+    /// A post over HTTP.
+    Post {
+        /// On which slot, which needn't be open.
+        slot: u32,
+        /// The claims of its token.
+        claims: Claims,
+        /// Its messages, in order.
+        messages: List<Posting>,
     },
     /// One batch of the stream, as the changes of its records.
     Poll {

@@ -9,4 +9,4 @@ mod story;
 pub use answer::{Answer, Item};
 pub use entry::{ChannelView, Entry};
 pub use input::{Input, Settings, Step};
-pub use story::{Channel, Member, Opening, Part, Track};
+pub use story::{Channel, Member, Opening, Part, Standing, Track};

@@ -14,6 +14,19 @@ pub struct Opening {
     pub heard: u64,
 }
 
+/// What a channel is, and may do, by the claims that it has.
+#[derive(Drop)]
+pub struct Standing {
+    /// The number of the claims' role in the catalogue.
+    pub role: u32,
+    /// The claims.
+    pub claims: Shared<Claims>,
+    /// Why a broadcast is denied; none where it may be sent.
+    pub send: Option<Text>,
+    /// Why a track is denied; none where it may be made.
+    pub track: Option<Text>,
+}
+
 /// An accepted join. A channel is named by its number, the join's in the journal.
 #[derive(Drop)]
 pub struct Channel {
@@ -25,10 +38,8 @@ pub struct Channel {
     pub topic: Text,
     /// The join's ref, which its messages carry.
     pub join_ref: Json,
-    /// The number of its claims' role in the catalogue.
-    pub role: u32,
-    /// The claims of the join.
-    pub claims: Shared<Claims>,
+    /// By the claims of the join.
+    pub standing: Standing,
     /// The bindings of the join, with what they mean.
     pub bindings: List<Subscribed>,
     /// The id of the first binding. The ids run on from there.
@@ -43,15 +54,13 @@ pub struct Channel {
     pub key: Text,
 }
 
-/// A channel that hasn't departed, with the role and the claims that it has now.
+/// A channel that hasn't departed, with the claims that it has now.
 #[derive(Drop)]
 pub struct Member {
     /// The channel as it was joined.
     pub channel: Channel,
-    /// The number of the claims' role in the catalogue.
-    pub role: u32,
-    /// The claims of its last accepted renewal, or of its join.
-    pub claims: Shared<Claims>,
+    /// By the claims of its last accepted renewal, or of its join.
+    pub standing: Standing,
 }
 
 /// What a channel tracks on its topic. The reference is the track's number in the journal.
@@ -95,14 +104,12 @@ pub enum Part {
     },
     /// A channel is joined.
     Joins(Channel),
-    /// A channel has a new role and new claims from here on.
+    /// A channel has new claims from here on.
     Renews {
         /// The channel's number.
         channel: u32,
-        /// The number of the claims' role in the catalogue.
-        role: u32,
-        /// The claims from here on.
-        claims: Shared<Claims>,
+        /// By its claims from here on.
+        standing: Standing,
     },
     /// A channel tracks a value, in the place of what it tracked on the topic.
     Tracks(Track),

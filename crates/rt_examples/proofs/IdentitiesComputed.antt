@@ -55,7 +55,7 @@ row_is_seen = ap seen_if (says_hi_is who (view_by rows (visibility_within 0 hi_r
 
 abbrev the_subscription : Subscription
 the_subscription =
-    record { id = 1; channel = 1; slot = 0; wanted = All; schema = codes "public"; table = Some 0; test = None; role = 0; claims = authenticated }
+    record { id = 1; channel = 1; slot = 0; wanted = All; schema = codes "public"; table = Some 0; tests = []; role = 0; claims = authenticated }
 
 abbrev the_channel : ChannelView
 the_channel = record { channel = 1; slot = 0; topic = codes "realtime:notes"; join_ref = Text (codes "1") }

@@ -2,11 +2,13 @@ mod CutsComputed
 mod DeletesComputed
 mod ErrorsComputed
 mod ExpiryComputed
+mod FiltersComputed
 mod FramesComputed
 mod IdentitiesComputed
 mod NotesComputed
 mod OwnersComputed
 mod Polls
+mod PostsComputed
 mod RenewalComputed
 mod RestrictiveComputed
 mod RoomsComputed

@@ -9,12 +9,13 @@ use Rattle.rt_change.specs.Verdicts.{is_truncate}
 use Rattle.rt_entry.specs.declared.input.Input.{Input}
 use Rattle.rt_entry.specs.declared.input.Input.TheVariants.{Poll}
 use Rattle.rt_entry.specs.declared.input.Settings.{Settings}
+use Rattle.rt_entry.specs.declared.story.Standing.{Standing}
 use Rattle.rt_entry.specs.declared.story.Channel.{Channel}
 use Rattle.rt_entry.specs.declared.story.Member.{Member}
 use Rattle.rt_entry.specs.declared.story.Part.{Part}
 use Rattle.rt_entry.specs.declared.story.Part.TheVariants.{Tells}
 use Rattle.rt_entry.specs.declared.entry.ChannelView.{ChannelView}
-use Rattle.rt_entry.specs.Story.{Story, Line, Standing, joined_by, departed_in, renewed_by, has, first_or, standing_of, joined, departed, members_at, claims_at, member_in, now_of, tables_left}
+use Rattle.rt_entry.specs.Story.{Story, Line, joined_by, departed_in, renewed_by, has, first_or, joined, departed, members_at, standing_at, member_in, now_of, tables_left}
 use Rattle.rt_entry.specs.Doings.{change_parts, change_parts_to, change_parts_to_all, poll_parts, gets, doings, story, subscriptions, view_of}
 
 abbrev TellsOnly : List Part → Type 0
@@ -77,13 +78,13 @@ module _ (l : Line) (before : Story) (only : TellsOnly l.parts) where
   unfolding members_at
   members_stay = ap₂ (λ ns cs. filter (λ (ch : Channel). not (has ch.number ns)) cs) departed_stay joined_stay
 
-  claims_stay : (ch : Channel) → claims_at (l ∷ before) ch ≡ claims_at before ch
-  unfolding claims_at
-  claims_stay ch =
-      ap (λ ss. first_or (standing_of ch) (ss ++ flat_map (λ (k : Line). filter_map (renewed_by ch.number) k.parts) before)) (no_renewals ch.number l.parts only)
+  standing_stays : (ch : Channel) → standing_at (l ∷ before) ch ≡ standing_at before ch
+  unfolding standing_at
+  standing_stays ch =
+      ap (λ ss. first_or ch.standing (ss ++ flat_map (λ (k : Line). filter_map (renewed_by ch.number) k.parts) before)) (no_renewals ch.number l.parts only)
 
   member_stays : (ch : Channel) → member_in (l ∷ before) ch ≡ member_in before ch
-  member_stays ch = ap (λ (st : Standing). record { channel = ch; role = st.role; claims = st.claims }) (claims_stay ch)
+  member_stays ch = ap (λ (st : Standing). record { channel = ch; standing = st }) (standing_stays ch)
 
   now_members_stay : (now_of (l ∷ before)).members ≡ (now_of before).members
   unfolding now_of

@@ -15,16 +15,17 @@ use Rattle.rt_phx.specs.Joins.{config_of}
 use Rattle.rt_filter.specs.Written.{filter_of}
 use Rattle.rt_filter.specs.Tests.{test_of}
 use Rattle.rt_registry.specs.Bindings.{bindings_for}
+use Rattle.rt_private.specs.Rights.{messages_of, right, denial}
 use Rattle.rt_change.specs.Verdicts.{verdict_of}
 use Rattle.rt_change.specs.Shape.{shape_of}
-use Rattle.rt_entry.specs.Story.{joined, departed, members_at, claims_at, ids_given, all_tracks, present_at, edits_at, every_slot, now_of}
-use Rattle.rt_entry.specs.Joining.{channel_of_join, renewal_of}
+use Rattle.rt_entry.specs.Story.{joined, departed, members_at, standing_at, ids_given, all_tracks, present_at, edits_at, every_slot, now_of}
+use Rattle.rt_entry.specs.Joining.{standing_for, channel_of_join, renewal_of}
 use Rattle.rt_entry.specs.Doings.{subscriptions, poll_parts, doings, story}
 use Rattle.rt_entry.specs.Answers.{told, answers_by, all_answers, answers_of_marks, marks_of, lane_marks}
 use Rattle.rt_entry.specs.Machine.{shown, pending, step_of, run}
 
 unfoldable pub but_verdicts : Unit {0}
-unfolding json_computes digits tables_after message_of config_of filter_of test_of bindings_for shape_of joined departed members_at claims_at ids_given all_tracks present_at edits_at every_slot now_of channel_of_join renewal_of subscriptions poll_parts doings story told answers_by all_answers answers_of_marks marks_of lane_marks shown pending step_of run
+unfolding json_computes digits tables_after message_of config_of filter_of test_of bindings_for shape_of joined departed members_at standing_at ids_given all_tracks present_at edits_at every_slot now_of standing_for channel_of_join renewal_of messages_of right denial subscriptions poll_parts doings story told answers_by all_answers answers_of_marks marks_of lane_marks shown pending step_of run
 but_verdicts = tt
 
 unfoldable pub computes : Unit {0}

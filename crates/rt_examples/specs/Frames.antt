@@ -68,7 +68,7 @@ abbrev pub opened : Opening
 opened = record { version = V1; claims = authenticated; heard = 0 }
 
 abbrev pub joined_beside : ℕ → Option (List ℕ)
-joined_beside others = why_not (channel_of_join notes settings (now_of (story notes settings (Opened 0 V1 authenticated ∷ []))) 0 opened others bare_join)
+joined_beside others = why_not (channel_of_join notes [] settings (now_of (story notes settings (Opened 0 V1 authenticated ∷ []))) 0 opened others bare_join)
 
 abbrev pub ChannelsAreLimited : Type 0
 ChannelsAreLimited = (joined_beside 99 ≡ None) × (joined_beside 100 ≡ Some (codes "too many channels"))

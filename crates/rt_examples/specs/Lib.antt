@@ -3,12 +3,14 @@ pub mod Cuts
 pub mod Deletes
 pub mod Errors
 pub mod Expiry
+pub mod Filters
 pub mod Folds
 pub mod Frames
 pub mod Identities
 pub mod Notes
 pub mod Owners
 pub mod Policies
+pub mod Posts
 pub mod Renewal
 pub mod Restrictive
 pub mod Rooms

@@ -10,9 +10,11 @@ ghost use Rattle.rt_examples.specs.Restrictive.{RestrictiveRefuses};
 ghost use Rattle.rt_examples.specs.Rooms.{MembersSeeRooms};
 ghost use Rattle.rt_examples.specs.Cuts.{CutIsGiven, CutIsShown};
 ghost use Rattle.rt_examples.specs.Expiry.{ChannelExpires};
+ghost use Rattle.rt_examples.specs.Filters.{BothFiltersPass, EmptyIsBad, NineAreTooMany};
 ghost use Rattle.rt_examples.specs.Identities.{IdentityIsBound, NoIdentityIsBound, IdentityIsShown, RowIsKept};
 ghost use Rattle.rt_examples.specs.Notes.{FirstRun};
 ghost use Rattle.rt_examples.specs.Owners.{OwnersAreJudged};
+ghost use Rattle.rt_examples.specs.Posts.{PostsAreHeard};
 ghost use Rattle.rt_examples.specs.Renewal.{TokenIsSigned, RenewalIsFollowed};
 ghost use Rattle.rt_examples.specs.Tracks.{KeylessGets, LeaverGets, WatcherGets};
 
@@ -84,6 +86,18 @@ pub fn frames()
     ensures answered { FramesAreAnswered }
     ensures refused { JoinsAreRefused }
     ensures limited { ChannelsAreLimited }
+{}
+
+/// A binding with two filters, and lists of filters that are refused.
+pub fn filters()
+    ensures pass { BothFiltersPass }
+    ensures many { NineAreTooMany }
+    ensures empty { EmptyIsBad }
+{}
+
+/// A post is heard by the channels of its topics, and says nothing once its claims have run out.
+pub fn posts()
+    ensures { PostsAreHeard }
 {}
 
 /// Vectors of HMAC and of tokens from outside.

@@ -1,6 +1,6 @@
 -- What a filter tests on a table's columns, and which cells pass.
 use Rattle.std.specs.Prelude.{ℕ, nat_lt, Bool, true, false, not, if◌then◌else◌, List, [], ◌∷◌, length, slice_get, find, Option, Some, None, option_map, unwrap_or, Result, Ok, Err}
-use Rattle.std.specs.List.{list_any, enumerate_from}
+use Rattle.std.specs.List.{list_all, list_any, enumerate_from}
 use Rattle.std.specs.Str.{bytes_eq}
 use Rattle.std.specs.declared.cmp.Ordering.{Ordering}
 use Rattle.std.specs.declared.cmp.Ordering.TheVariants.{Less, Equal, Greater}
@@ -39,6 +39,10 @@ passes_cell test cell = list_any (λ v. is_at (stands test.op) (compared cell v)
 -- the cell is there, isn't null, and stands to the values as the operator says
 abbrev pub passes : Test → List (Option Value) → Bool
 passes test cells = is_at (is_at (passes_cell test)) (slice_get cells test.column)
+
+-- every test passes; without tests, every change does
+abbrev pub all_pass : List Test → List (Option Value) → Bool
+all_pass tests cells = list_all (λ t. passes t cells) tests
 
 -- the most values that a filter may have
 abbrev pub value_limit : ℕ

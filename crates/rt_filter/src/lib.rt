@@ -14,6 +14,6 @@ mod tests;
 pub use checking::check;
 pub use fault::FilterFault;
 pub use filter::{Filter, Op, Shown, Test};
-pub use passing::passes;
+pub use passing::{all_pass, passes};
 pub use reading::read;
 pub use subscription::{Subscription, Wanted};

@@ -1,7 +1,7 @@
 ghost use Rattle.std.specs.Prelude.{◌≡◌};
 ghost use Rattle.rt_value.specs.Choice.{is_at};
 ghost use Rattle.rt_value.specs.Order.{compared};
-ghost use Rattle.rt_filter.specs.Tests.{passes, passes_cell, stands};
+ghost use Rattle.rt_filter.specs.Tests.{all_pass, passes, passes_cell, stands};
 
 use crate::{Op, Test};
 use rt_value::{Cells, Value, compare};
@@ -16,6 +16,13 @@ pub fn passes(test: &Test, cells: &Cells) -> bool
         Some(Some(cell)) => passes_cell(test, cell),
         _ => false,
     }
+}
+
+/// Whether every test passes. Without tests it is so.
+pub fn all_pass(tests: &[Test], cells: &Cells) -> bool
+    ensures { result ≡ all_pass tests.now cells.now }
+{
+    tests.iter().all(|test| passes(test, cells))
 }
 
 fn passes_cell(test: &Test, cell: &Value) -> bool

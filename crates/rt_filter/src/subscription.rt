@@ -1,5 +1,5 @@
 use crate::Test;
-use rt_value::{Claims, Shared, Text};
+use rt_value::{Claims, List, Shared, Text};
 
 /// The events that a binding asks for.
 #[derive(Clone, Copy, Debug, Drop, PartialEq, Eq)]
@@ -20,7 +20,8 @@ pub struct Subscription {
     pub wanted: Wanted,
     pub schema: Text,
     pub table: Option<u32>,
-    pub test: Option<Test>,
+    /// All of them have to pass.
+    pub tests: List<Test>,
     pub role: u32,
     pub claims: Shared<Claims>,
 }

@@ -23,10 +23,10 @@ use Rattle.rt_first.proofs.Form.{catalog_with}
 
 -- the binding, and what it means
 abbrev pub binding_with : List ℕ → Binding
-binding_with name = record { wanted = codes "*"; schema = codes "public"; table = Some name; filter = None }
+binding_with name = record { wanted = codes "*"; schema = codes "public"; table = Some name; filters = []; listed = false }
 
 abbrev pub subscribed_with : List ℕ → Subscribed
-subscribed_with name = record { binding = binding_with name; wanted = wanted.All; table = Some 0; test = None }
+subscribed_with name = record { binding = binding_with name; wanted = wanted.All; table = Some 0; tests = [] }
 
 module _ (name : List ℕ) (first second : Column) (is_key : Bool) (role : List ℕ) where
   abbrev cat : Catalog
@@ -41,11 +41,8 @@ module _ (name : List ℕ) (first second : Column) (is_key : Bool) (role : List 
     abbrev Meant : Type 0
     Meant = Result Subscribed BindingWhy
 
-    abbrev with_test : Option ℕ → Result (Option Test) BindingWhy → Meant
-    with_test table r = r >> λ test. Ok (record { binding = binding_with name; wanted = wanted.All; table = table; test = test })
-
     abbrev with_table : Result (Option ℕ) BindingWhy → Meant
-    with_table r = r >> λ table. with_test table (test_for cat 0 table None)
+    with_table r = r >> λ table. Ok (record { binding = binding_with name; wanted = wanted.All; table = table; tests = [] })
 
     binding_means : meaning_of_binding cat 0 (binding_with name) ≡ Ok (subscribed_with name)
     binding_means =

@@ -12,18 +12,21 @@ use Rattle.rt_json.proofs.Meaning.{tree_again}
 use Rattle.rt_phx.specs.declared.message.Message.{Message}
 use Rattle.rt_phx.specs.declared.message.Version.TheVariants.{V1}
 use Rattle.rt_phx.specs.Frame.{message, message_of, message_of_tree, frame_limit}
-use Rattle.rt_phx.specs.Joins.{Asked, Config, config_of}
+use Rattle.rt_phx.specs.Joins.{Asked, Config, unlisted, config_of}
 use Rattle.rt_phx.specs.Asks.{is_channel_topic, topic_prefix}
 use Rattle.rt_phx.proofs.Frames.{in_limit}
+use Rattle.rt_value.specs.declared.row.Row.{Row}
 use Rattle.rt_catalog.specs.declared.catalog.Catalog.{Catalog}
+use Rattle.rt_private.specs.Rights.{messages_of, denial}
 use Rattle.rt_registry.specs.declared.binding.Subscribed.{Subscribed}
 use Rattle.rt_registry.specs.declared.fault.RegistryFault.{RegistryFault}
 use Rattle.rt_registry.specs.declared.fault.RegistryFault.TheVariants.{UnknownRole}
 use Rattle.rt_registry.specs.Bindings.{or_err, bindings_for}
 use Rattle.rt_entry.specs.declared.input.Settings.{Settings}
+use Rattle.rt_entry.specs.declared.story.Standing.{Standing}
 use Rattle.rt_entry.specs.declared.story.Channel.{Channel}
 use Rattle.rt_entry.specs.Story.{Now}
-use Rattle.rt_entry.specs.Joining.{Checked, ◌>>◌, demand, told_by, registry_text, channel_limit, channel_of_join}
+use Rattle.rt_entry.specs.Joining.{Checked, ◌>>◌, demand, told_by, registry_text, channel_limit, standing_for, channel_of_join}
 use Rattle.rt_first.specs.Script.{join_tree, payload_tree}
 use Rattle.rt_first.specs.declared.catalogue.Column.{Column}
 use Rattle.rt_first.proofs.Binding.{binding_with, subscribed_with, role_found, bindings_found}
@@ -52,12 +55,15 @@ behind_prefix channel = refl
 
 abbrev pub config_with : List ℕ → Config
 config_with name =
-    let asked : Asked = record { event = codes "*"; schema = codes "public"; table = Some name; filter = None } in
+    let asked : Asked = record { event = codes "*"; schema = codes "public"; table = Some name; filters = unlisted [] } in
     record { ack = false; own = false; presence = false; key = []; private = false; bindings = asked ∷ [] }
 
 config_found : (name : List ℕ) → config_of (payload_tree name) ≡ Some (config_with name)
 unfolding json_computes config_of
 config_found name = refl
+
+abbrev standing_with : List ℕ → ℕ → Standing
+standing_with role number = record { role = number; claims = held_by role; send = None; track = None }
 
 abbrev pub channel_with : Now → ℕ → List ℕ → List ℕ → List ℕ → List ℕ → Channel
 channel_with now slot topic reference name role =
@@ -66,8 +72,7 @@ channel_with now slot topic reference name role =
       slot = slot;
       topic = topic;
       join_ref = Text reference;
-      role = 0;
-      claims = held_by role;
+      standing = standing_with role 0;
       bindings = subscribed_with name ∷ [];
       first_id = now.ids + 1;
       ack = false;
@@ -81,28 +86,28 @@ module _ (name : List ℕ) (first second : Column) (is_key : Bool) (role : List 
   abbrev cat : Catalog
   cat = catalog_with name first second is_key role
 
-  abbrev made : ℕ → List Subscribed → Channel
-  made number bindings = record (channel_with now slot topic reference name role) { role = number; bindings = bindings }
+  abbrev made : Standing → List Subscribed → Channel
+  made standing bindings = record (channel_with now slot topic reference name role) { standing = standing; bindings = bindings }
 
   abbrev from_role : ℕ → Option ℕ → Checked Channel
   from_role others o =
-      told_by registry_text (or_err UnknownRole o) >> λ number.
+      (told_by registry_text (or_err UnknownRole o) >> λ number. Ok (standing_with role number)) >> λ standing.
       demand (nat_lt others channel_limit) (codes "too many channels") >> λ _.
-      told_by registry_text (bindings_for cat (held_by role) (binding_with name ∷ [])) >> λ bindings. Ok (made number bindings)
+      told_by registry_text (bindings_for cat (held_by role) (binding_with name ∷ [])) >> λ bindings. Ok (made standing bindings)
 
   abbrev from_room : Bool → Checked Channel
   from_room b =
       demand b (codes "too many channels") >> λ _.
-      told_by registry_text (bindings_for cat (held_by role) (binding_with name ∷ [])) >> λ bindings. Ok (made 0 bindings)
+      told_by registry_text (bindings_for cat (held_by role) (binding_with name ∷ [])) >> λ bindings. Ok (made (standing_with role 0) bindings)
 
   abbrev from_bindings : Result (List Subscribed) RegistryFault → Checked Channel
-  from_bindings o = told_by registry_text o >> λ bindings. Ok (made 0 bindings)
+  from_bindings o = told_by registry_text o >> λ bindings. Ok (made (standing_with role 0) bindings)
 
-  pub channel_made : (others : ℕ) → nat_lt others channel_limit ≡ true
-      → channel_of_join cat s now slot (opening_by (held_by role)) others (join_with topic reference name)
+  pub channel_made : (tables : List (List Row)) (others : ℕ) → nat_lt others channel_limit ≡ true
+      → channel_of_join cat tables s now slot (opening_by (held_by role)) others (join_with topic reference name)
       ≡ Ok (channel_with now slot topic reference name role)
-  unfolding json_computes config_of channel_of_join
-  channel_made others room =
+  unfolding json_computes config_of channel_of_join standing_for denial messages_of
+  channel_made tables others room =
       ap (from_role others) (role_found name first second is_key role)
       ∙ ap from_room room
       ∙ ap from_bindings (bindings_found name first second is_key role no_star)

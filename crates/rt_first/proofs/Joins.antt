@@ -58,16 +58,16 @@ module _ (name : List ℕ) (first second : Column) (is_key : Bool) (role : List 
     unfolding doings now_of members_at joined departed ids_given
     frame_joins tables =
         let now = now_of before in
-        ap (frame_parts cat s now slot frame) (opening_found before slot within ∙ still_open slot (held_by role))
-        ∙ ap (message_parts cat s now slot opening) (message_read topic reference name frame short read)
+        ap (frame_parts cat s now tables slot frame) (opening_found before slot within ∙ still_open slot (held_by role))
+        ∙ ap (message_parts cat s now tables slot opening) (message_read topic reference name frame short read)
         ∙ ap
         (λ (b : Bool).
         elim b [
-          | true ↦ join_over_former cat s now slot opening join (option_to_list (channel_on now slot topic))
+          | true ↦ join_over_former cat s now tables slot opening join (option_to_list (channel_on now slot topic))
           | false ↦ tell slot (reply_error join.join_ref join (codes "unmatched topic"))
         ])
         on
-        ∙ ap (join_result_parts now slot [] join) (channel_made name first second is_key role no_star s now slot topic reference 0 refl)
+        ∙ ap (join_result_parts now slot [] join) (channel_made name first second is_key role no_star s now slot topic reference tables 0 refl)
 
     pub second_story_is : story cat s (Frame slot frame ∷ Opened slot V1 (held_by role) ∷ []) ≡ second_story
     unfolding story

@@ -22,7 +22,7 @@ use Rattle.rt_entry.specs.declared.story.Part.TheVariants.{Tells}
 use Rattle.rt_entry.specs.declared.answer.Answer.TheVariants.{Opened as opened, Says as says}
 use Rattle.rt_entry.specs.declared.entry.ChannelView.{ChannelView}
 use Rattle.rt_entry.specs.Messages.{joined_response, subscribed_message, change_message}
-use Rattle.rt_entry.specs.Story.{Story, joined, departed, members_at, claims_at, now_of, tables_left}
+use Rattle.rt_entry.specs.Story.{Story, joined, departed, members_at, standing_at, now_of, tables_left}
 use Rattle.rt_entry.specs.Doings.{subscriptions, poll_parts, doings, story}
 use Rattle.rt_entry.specs.Answers.{Answers, answer_of, answers_by, answers, all_answers}
 use Rattle.rt_first.specs.Script.{join_tree}
@@ -67,7 +67,7 @@ module _ (name : List ℕ) (first second : Column) (is_key : Bool) (role : List 
   module _ (differ : first.name ≢ second.name) (of_one : Stands (kind_of first.column_type) one) (of_two : Stands (kind_of second.column_type) two)
       (few : nat_lt s.max_record size ≡ false) where
     poll_tells : (tables : List (List Row)) → doings cat s (now_of after_join) tables (Poll (change ∷ [])) ≡ Tells slot change_told ∷ []
-    unfolding doings now_of members_at joined departed claims_at subscriptions poll_parts verdict_of
+    unfolding doings now_of members_at joined departed standing_at subscriptions poll_parts verdict_of
     poll_tells tables =
         ap (λ (data_ : Json). Tells slot (change_message view (1 ∷ []) data_) ∷ [])
         (shape_is name first second is_key role one two size differ of_one of_two s.max_record few)

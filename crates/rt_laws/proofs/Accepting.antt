@@ -1,11 +1,17 @@
 -- A channel that a readable join makes can be spoken of, and each reason against a join or a renewal is UTF-8.
 use Rattle.std.proofs.Common.{◌≡◌, ℕ, suc, ◌+◌, ◌*◌, ◌<◌, ◌≤◌, Bool, true, false, not, List, [], ◌∷◌, ◌++◌, map, length, Option, Some, None, Ok, Err, refl, sym, ap, subst, arith}
-use Rattle.std.specs.Prelude.{⊤, ◌^◌, IsUtf8, codes, nat_lt, Result}
+use Rattle.std.specs.Prelude.{⊤, ◌^◌, IsUtf8, codes, nat_lt, slice_get, option_map, unwrap_or, Result}
 use Rattle.std.specs.Fmt.{decimal}
 use Rattle.std.specs.Str.{bytes_eq}
 use Rattle.std.proofs.lemmas.Bool.Decides.{nat_tests}
 use Rattle.std.proofs.lemmas.Str.{IsUtf8-append}
+use Rattle.std.specs.List.{filter}
 use Rattle.rt_value.specs.declared.claims.Claims.{Claims}
+use Rattle.rt_value.specs.declared.row.Row.{Row}
+use Rattle.rt_value.specs.Choice.{◌>>=◌}
+use Rattle.rt_value.specs.Tables.{rows_of_table}
+use Rattle.rt_policy.specs.declared.tables.Policy.{Policy}
+use Rattle.rt_policy.specs.declared.tables.TableRules.{TableRules}
 use Rattle.rt_value.proofs.Plain.{AllOf, Maybe, all_map_of}
 use Rattle.rt_json.specs.declared.tree.Json.{Json}
 use Rattle.rt_json.specs.Lookup.{member_of}
@@ -16,27 +22,35 @@ use Rattle.rt_token.specs.Asked.{claims_asked, seconds_of, fault_text}
 use Rattle.rt_phx.specs.declared.message.Message.{Message}
 use Rattle.rt_phx.specs.Fits.{IsRef}
 use Rattle.rt_phx.specs.Joins.{Asked, Config, config_of}
-use Rattle.rt_phx.specs.Asks.{topic_prefix, is_channel_topic}
+use Rattle.rt_phx.specs.Asks.{topic_prefix, name_in, is_channel_topic}
 use Rattle.rt_catalog.specs.declared.catalog.Catalog.{Catalog}
-use Rattle.rt_catalog.specs.Access.{role_named}
+use Rattle.rt_catalog.specs.Access.{role_named, rules_at}
+use Rattle.rt_private.specs.Names.{IsReadablePolicy, AreReadableRules, HasReadableTexts}
 use Rattle.rt_registry.specs.declared.binding.Binding.{Binding}
 use Rattle.rt_registry.specs.declared.binding.Subscribed.{Subscribed}
 use Rattle.rt_registry.specs.declared.fault.BindingWhy.{BindingWhy}
 use Rattle.rt_registry.specs.declared.fault.BindingWhy.TheVariants as why
 use Rattle.rt_registry.specs.declared.fault.RegistryFault.{RegistryFault}
 use Rattle.rt_registry.specs.declared.fault.RegistryFault.TheVariants.{NoMemory, UnknownRole, Limit, BadBinding}
+use Rattle.rt_private.specs.declared.right.Messages.{Messages}
+use Rattle.rt_private.specs.declared.right.Right.{Right}
+use Rattle.rt_private.specs.declared.right.Right.TheVariants.{Yes, NoPrivilege, NoPolicy, NonePermits, Restrictive}
+use Rattle.rt_private.specs.Rights as private
+use Rattle.rt_private.specs.Rights.{Use, messages_of, right, policy_name, denial_text, denial}
 use Rattle.rt_registry.specs.Bindings as registry
-use Rattle.rt_registry.specs.Bindings.{role_for, bindings_for, why_text, wanted_of, table_for, test_for, unless_text, or_err, meaning_of_binding, at_count, all_from, binding_limit, within_limit}
+use Rattle.rt_registry.specs.Bindings.{role_for, bindings_for, why_text, wanted_of, table_for, tests_for, filters_of, unless_text, or_err, meaning_of_binding, at_count, all_from, binding_limit, within_limit}
 use Rattle.rt_entry.specs.declared.input.Settings.{Settings}
 use Rattle.rt_entry.specs.declared.story.Opening.{Opening}
+use Rattle.rt_entry.specs.declared.story.Standing.{Standing}
 use Rattle.rt_entry.specs.declared.story.Channel.{Channel}
 use Rattle.rt_entry.specs.declared.story.Member.{Member}
-use Rattle.rt_entry.specs.Joining.{Checked, ◌>>◌, or_why, demand, told_by, registry_text, channel_limit, binding_of, key_of, join_ref_of, asked_claims, channel_of_join, renewal_of}
-use Rattle.rt_entry.specs.Story.{Now, Standing}
+use Rattle.rt_entry.specs.Joining.{Checked, ◌>>◌, or_why, demand, told_by, registry_text, channel_limit, binding_of, key_of, join_ref_of, asked_claims, unless, is_as_private, denied, standing_for, has_presence, channel_of_join, renewal_of}
+use Rattle.rt_entry.specs.Story.{Now}
 use Rattle.rt_entry.specs.Readable.{IsReadable}
 use Rattle.rt_laws.proofs.Texts.{word, decimal_utf8, behind, both}
 use Rattle.rt_laws.proofs.Incoming.{AskedFits, ConfigFits, config_fits}
-use Rattle.rt_laws.proofs.Outgoing.{Small, BindingFits, SubscribedFits, ChannelFits, TrackFits}
+use Rattle.rt_laws.proofs.Shaping.{got}
+use Rattle.rt_laws.proofs.Outgoing.{Small, BindingFits, SubscribedFits, StandingFits, ChannelFits, TrackFits}
 
 -- a value that has something, or a reason in UTF-8
 abbrev pub Told : {A : Type 0} → (A → Type 0) → Checked A → Type 0
@@ -70,6 +84,7 @@ why_utf8 : (e : BindingWhy) → IsUtf8 (why_text e)
 why_utf8 why.Event = word (codes "event") refl
 why_utf8 why.Table = word (codes "unknown table") refl
 why_utf8 why.FilterNoTable = word (codes "filter without table") refl
+why_utf8 why.TooManyFilters = word (codes "too many filters") refl
 why_utf8 why.Filter = word (codes "bad filter") refl
 why_utf8 why.Column = word (codes "column") refl
 why_utf8 why.Opaque = word (codes "opaque column") refl
@@ -133,8 +148,8 @@ meaning : (c : Catalog) (role : ℕ) (b : Binding) → Means b (meaning_of_bindi
 meaning c role b =
     means_bind b (or_err why.Event (wanted_of b.wanted)) _ (λ wanted.
     means_bind b (table_for c b.schema (unless_text (codes "*") b.table)) _ (λ table.
-    means_bind b (test_for c role table (unless_text [] b.filter))
-    (λ test. Ok (record { binding = b; wanted = wanted; table = table; test = test })) (λ test. refl)))
+    means_bind b (tests_for c role table (filters_of b))
+    (λ tests. Ok (record { binding = b; wanted = wanted; table = table; tests = tests })) (λ tests. refl)))
 
 counted : (n : ℕ) (b : Binding) (r : Result Subscribed BindingWhy) → Small n → Means b r → Answered (λ (s : Subscribed). s.binding ≡ b) (at_count n r)
 counted n b (Ok s) small h = h
@@ -176,14 +191,62 @@ bindings_answered c claims bs a =
     few_of (Ok ss) few h = let n = h.1 in (h.0, omega arith)
     few_of (Err e) few h = h
 
+-- what claims make of a channel
+
+text_utf8 : (c : Catalog) → HasReadableTexts c → (m : Messages) (r : Right) → Maybe IsUtf8 (denial_text c m r)
+text_utf8 c names m Yes = tt
+text_utf8 c names m NoPrivilege = word (codes "private: no privilege") refl
+text_utf8 c names m NoPolicy = word (codes "private: no policy") refl
+text_utf8 c names m NonePermits = word (codes "private: none permits") refl
+text_utf8 c names m (Restrictive n) =
+    IsUtf8-append (codes "private: restrictive ") (policy_name c m n) (word (codes "private: restrictive ") refl) (named (rules_at c m.table) rules)
+  where
+    rules : Maybe AreReadableRules (rules_at c m.table)
+    rules = got AreReadableRules c.rules.tables m.table names.policies
+
+    policy : (o : Option Policy) → Maybe IsReadablePolicy o → IsUtf8 (unwrap_or (option_map (λ (p : Policy). p.name) o) [])
+    policy None h = word [] refl
+    policy (Some p) h = h
+
+    named : (o : Option TableRules) → Maybe AreReadableRules o
+        → IsUtf8 (unwrap_or (option_map (λ (p : Policy). p.name) (o >>= λ t. slice_get t.policies n)) [])
+    named None h = word [] refl
+    named (Some t) h = policy (slice_get t.policies n) (got IsReadablePolicy t.policies n h)
+
+denial_utf8 : (c : Catalog) → HasReadableTexts c → (rows : ℕ → List Row) (role : ℕ) (claims : Claims) (name : List ℕ) (use_ : Use)
+    → Maybe IsUtf8 (denial c rows role claims name use_)
+unfolding denial
+denial_utf8 c names rows role claims name use_ = by (messages_of c)
+  where
+    by : (o : Option Messages) → Maybe IsUtf8 (o >>= λ m. denial_text c m (right c rows m role claims name use_))
+    by None = tt
+    by (Some m) = text_utf8 c names m (right c rows m role claims name use_)
+
+told_unless : (o : Option (List ℕ)) → Maybe IsUtf8 o → Told (λ (x : Bool). ⊤) (unless o)
+told_unless None h = tt
+told_unless (Some why) h = h
+
+standing_told : (c : Catalog) → HasReadableTexts c → (tables : List (List Row)) (name : List ℕ) (claims : Claims)
+    → Told StandingFits (standing_for c tables name claims)
+unfolding standing_for
+standing_told c names tables name claims =
+    let utf8 : (role : ℕ) (use_ : Use) → Maybe IsUtf8 (denied c tables role claims name use_) =
+    λ role use_. denial_utf8 c names (rows_of_table tables) role claims name use_ in
+    told_bind (λ (n : ℕ). ⊤) StandingFits (told_by registry_text (role_for c claims)) _
+    (told_registry (λ (n : ℕ). ⊤) (role_for c claims) (role_answered c claims)) (λ role _.
+    told_bind (λ (x : Bool). ⊤) StandingFits (unless (denied c tables role claims name private.join)) _
+    (told_unless (denied c tables role claims name private.join) (utf8 role private.join))
+    (λ _ _. record { send = utf8 role private.send; track = utf8 role private.track }))
+
 -- what an input finds can be spoken of
 pub record NowFits (now : Now) : Type 0 where
   pub number : now.number < 2 ^ 64
   pub ids : now.ids ≤ 100 * now.number
   pub members : AllOf (λ (h : Member). ChannelFits h.channel) now.members
+  pub standings : AllOf (λ (h : Member). StandingFits h.standing) now.members
   pub tracks : AllOf TrackFits now.tracks
 
-module _ (c : Catalog) (s : Settings) (now : Now) (fits : NowFits now) where
+module _ (c : Catalog) (s : Settings) (names : HasReadableTexts c) (now : Now) (fits : NowFits now) where
   claims_told : (o : Opening) (token : Option Json) → Told (λ (x : Claims). ⊤) (asked_claims s now o token)
   claims_told o token = told_token (claims_asked s.secret (seconds_of now.moment) o.claims token)
 
@@ -199,42 +262,41 @@ module _ (c : Catalog) (s : Settings) (now : Now) (fits : NowFits now) where
 
   asked_all : (as_ : List Asked) → AllOf AskedFits as_ → AllOf BindingFits (map binding_of as_)
   asked_all as_ a = all_map_of BindingFits AskedFits binding_of as_
-      (λ x h. record { event = h.event; schema = h.schema; table = h.table; filter = h.filter }) a
+      (λ x h. record { event = h.event; schema = h.schema; table = h.table; filters = h.filters }) a
 
-  pub join_told : (slot : ℕ) (o : Opening) (others : ℕ) (m : Message) → IsReadable 63 m → is_channel_topic m.topic ≡ true
-      → Told ChannelFits (channel_of_join c s now slot o others m)
+  pub join_told : (tables : List (List Row)) (slot : ℕ) (o : Opening) (others : ℕ) (m : Message) → IsReadable 63 m
+      → is_channel_topic m.topic ≡ true
+      → Told ChannelFits (channel_of_join c tables s now slot o others m)
   unfolding channel_of_join
-  join_told slot o others m is topic =
+  join_told tables slot o others m is topic =
       let any : Claims → Type 0 = λ x. ⊤ in
-      let made : Config → Claims → ℕ → List Subscribed → Checked Channel = λ config claims role bindings. Ok (record {
-        number = now.number;
-        slot = slot;
-        topic = m.topic;
-        join_ref = join_ref_of m;
-        role = role;
-        claims = claims;
-        bindings = bindings;
-        first_id = now.ids + 1;
-        ack = config.ack;
-        own = config.own;
-        presence = config.presence;
-        key = key_of now.number config.key;
-      }) in
       let name = behind topic_prefix m.topic refl (both _ _ topic).0 is.topic in
       let number = fits.number in
       let ids = fits.ids in
       told_bind ConfigFits ChannelFits (or_why (codes "bad config") (config_of m.payload)) _
-      (told_some ConfigFits (codes "bad config") (config_of m.payload) (word (codes "bad config") refl) (config_fits 58 m.payload is.payload))
+      (told_some ConfigFits (codes "bad config") (config_of m.payload) (word (codes "bad config") refl) (config_fits 57 m.payload is.payload))
       (λ config hc.
-      told_bind (λ (x : Bool). ⊤) ChannelFits (demand (not config.private) (codes "private channel")) _
-      (told_true (not config.private) (codes "private channel") (word (codes "private channel") refl)) (λ _ _.
+      told_bind (λ (x : Bool). ⊤) ChannelFits (demand (is_as_private c config.private) (codes "private channel")) _
+      (told_true (is_as_private c config.private) (codes "private channel") (word (codes "private channel") refl)) (λ _ _.
       told_bind any ChannelFits (asked_claims s now o (member_of m.payload (codes "access_token"))) _
       (claims_told o (member_of m.payload (codes "access_token"))) (λ claims _.
-      told_bind (λ (n : ℕ). ⊤) ChannelFits (told_by registry_text (role_for c claims)) _
-      (told_registry (λ (n : ℕ). ⊤) (role_for c claims) (role_answered c claims)) (λ role _.
+      told_bind StandingFits ChannelFits (standing_for c tables (name_in m.topic) claims) _
+      (standing_told c names tables (name_in m.topic) claims) (λ standing hs.
       told_bind (λ (x : Bool). ⊤) ChannelFits (demand (nat_lt others channel_limit) (codes "too many channels")) _
       (told_true (nat_lt others channel_limit) (codes "too many channels") (word (codes "too many channels") refl)) (λ _ _.
-      told_bind FewFit ChannelFits (told_by registry_text (bindings_for c claims (map binding_of config.bindings))) (made config claims role)
+      told_bind FewFit ChannelFits (told_by registry_text (bindings_for c claims (map binding_of config.bindings))) (λ bindings. Ok (record {
+        number = now.number;
+        slot = slot;
+        topic = m.topic;
+        join_ref = join_ref_of m;
+        standing = standing;
+        bindings = bindings;
+        first_id = now.ids + 1;
+        ack = config.ack;
+        own = config.own;
+        presence = has_presence c tables config (name_in m.topic) standing;
+        key = key_of now.number config.key;
+      }))
       (told_registry FewFit (bindings_for c claims (map binding_of config.bindings))
       (bindings_answered c claims (map binding_of config.bindings) (asked_all config.bindings hc.bindings))) (λ bindings hb.
       let few = hb.1 in
@@ -243,21 +305,21 @@ module _ (c : Catalog) (s : Settings) (now : Now) (fits : NowFits now) where
         topic = is.topic;
         name = name;
         key = key_utf8 config.key hc.key;
+        standing = hs;
         bindings = hb.0;
         few = few;
         ids = omega arith;
       }))))))
 
-  pub renewal_told : (o : Opening) (ch : Channel) (token : Json) → ChannelFits ch → Told (λ (x : Standing). ⊤) (renewal_of c s now o ch token)
+  pub renewal_told : (tables : List (List Row)) (o : Opening) (ch : Channel) (token : Json) → ChannelFits ch
+      → Told StandingFits (renewal_of c tables s now o ch token)
   unfolding renewal_of
-  renewal_told o ch token h =
+  renewal_told tables o ch token h =
       let same : List Binding = map (λ (b : Subscribed). b.binding) ch.bindings in
-      let any : Claims → Type 0 = λ x. ⊤ in
-      let done : Standing → Type 0 = λ x. ⊤ in
-      told_bind any done (asked_claims s now o (Some token)) _ (claims_told o (Some token)) (λ claims _.
-      told_bind (λ (n : ℕ). ⊤) done (told_by registry_text (role_for c claims)) _
-      (told_registry (λ (n : ℕ). ⊤) (role_for c claims) (role_answered c claims)) (λ role _.
-      told_bind FewFit done (told_by registry_text (bindings_for c claims same)) (λ _. Ok (record { role = role; claims = claims }))
+      told_bind (λ (x : Claims). ⊤) StandingFits (asked_claims s now o (Some token)) _ (claims_told o (Some token)) (λ claims _.
+      told_bind StandingFits StandingFits (standing_for c tables (name_in ch.topic) claims) _
+      (standing_told c names tables (name_in ch.topic) claims) (λ standing hs.
+      told_bind FewFit StandingFits (told_by registry_text (bindings_for c claims same)) (λ _. Ok standing)
       (told_registry FewFit (bindings_for c claims same) (bindings_answered c claims same
       (all_map_of BindingFits SubscribedFits (λ (b : Subscribed). b.binding) ch.bindings (λ b k. k) h.bindings)))
-      (λ _ _. tt)))
+      (λ _ _. hs)))

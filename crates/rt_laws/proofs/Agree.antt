@@ -11,7 +11,7 @@ use Rattle.rt_phx.specs.declared.message.Message.{Message}
 use Rattle.rt_presence.specs.Trees.{Held}
 use Rattle.rt_catalog.specs.declared.catalog.Catalog.{Catalog}
 use Rattle.rt_entry.specs.declared.input.Input.{Input}
-use Rattle.rt_entry.specs.declared.input.Input.TheVariants.{Opened, Frame, Gone, Poll, Tick, Stop}
+use Rattle.rt_entry.specs.declared.input.Input.TheVariants.{Opened, Frame, Gone, Poll, Tick, Stop, Post}
 use Rattle.rt_entry.specs.declared.input.Settings.{Settings}
 use Rattle.rt_entry.specs.declared.story.Channel.{Channel}
 use Rattle.rt_entry.specs.declared.story.Member.{Member}
@@ -133,6 +133,7 @@ module _ (c : Catalog) (s : Settings) where
   no_stop journal (Opened slot version claims) h here stays = tt
   no_stop journal (Frame slot bytes) h here stays = tt
   no_stop journal (Gone slot) h here stays = tt
+  no_stop journal (Post slot claims ps) h here stays = tt
   no_stop journal (Poll changes) h here stays = tt
   no_stop journal (Tick moment) h here stays = tt
 

@@ -14,7 +14,7 @@ use Rattle.rt_phx.specs.Frame.{spelled}
 use Rattle.rt_catalog.specs.declared.catalog.Catalog.{Catalog}
 use Rattle.rt_change.specs.declared.change.Change.{Change}
 use Rattle.rt_entry.specs.declared.input.Input.{Input}
-use Rattle.rt_entry.specs.declared.input.Input.TheVariants.{Opened, Frame, Gone, Poll, Tick, Stop}
+use Rattle.rt_entry.specs.declared.input.Input.TheVariants.{Opened, Frame, Gone, Poll, Tick, Stop, Post}
 use Rattle.rt_entry.specs.declared.input.Settings.{Settings}
 use Rattle.rt_entry.specs.declared.input.Step.{Step}
 use Rattle.rt_entry.specs.declared.story.Member.{Member}
@@ -123,7 +123,7 @@ fine_part n (Tells k x) h slot m e = let same : x ≡ m = ap (message_said x) e 
 fine_part n (Opens k o) h slot m e = absurd (let z : false ≡ true = ap is_message e in cc)
 fine_part n (Ends k name) h slot m e = absurd (let z : false ≡ true = ap is_message e in cc)
 fine_part n (Joins ch) h slot m e = absurd (cc)
-fine_part n (Renews k role claims) h slot m e = absurd (cc)
+fine_part n (Renews k x) h slot m e = absurd (cc)
 fine_part n (Tracks t) h slot m e = absurd (cc)
 fine_part n (Untracks k) h slot m e = absurd (cc)
 fine_part n (Departs k) h slot m e = absurd (cc)
@@ -133,7 +133,7 @@ fine_quiet (Tells k x) h slot m e = let same : x ≡ m = ap (message_said x) e i
 fine_quiet (Opens k o) h slot m e = absurd h
 fine_quiet (Ends k name) h slot m e = absurd h
 fine_quiet (Joins ch) h slot m e = absurd h
-fine_quiet (Renews k role claims) h slot m e = absurd h
+fine_quiet (Renews k x) h slot m e = absurd h
 fine_quiet (Tracks t) h slot m e = absurd h
 fine_quiet (Untracks k) h slot m e = absurd h
 fine_quiet (Departs k) h slot m e = absurd h
@@ -170,6 +170,7 @@ module _ (c : Catalog) (s : Settings) where
   polled before (Opened n v claims) slot m x sh e = absurd (fine_says _ _ _ slot m sh x e)
   polled before (Frame n bytes) slot m x sh e = absurd (fine_says _ _ _ slot m sh x e)
   polled before (Gone n) slot m x sh e = absurd (fine_says _ _ _ slot m sh x e)
+  polled before (Post n claims ps) slot m x sh e = absurd (fine_says _ _ _ slot m sh x e)
   polled before (Tick n) slot m x sh e = absurd (fine_says _ _ _ slot m sh x e)
   polled before Stop slot m x sh e = absurd (fine_says _ _ _ slot m sh x e)
 

@@ -58,14 +58,14 @@ module _ (c : Catalog) (s : Settings) (before : List Input) (changes : List Chan
   to_member ch g = gets c s tables ch g.channel.number
 
   -- where a subscription of the member gets the change, the member is told of it with all its ids
-  says : (ch : Change) (g : Member) (fs : List Subscription) (sub : Subscription) → Among fs sub → ((x : Subscription) → Among fs x → x.role ≡ g.role)
+  says : (ch : Change) (g : Member) (fs : List Subscription) (sub : Subscription) → Among fs sub → ((x : Subscription) → Among fs x → x.role ≡ g.standing.role)
       → Among (change_parts c s (view_of g) ch fs)
-      (Tells g.channel.slot (change_message (view_of g) (map id_of fs) (shape_of c g.role s.max_record ch)))
+      (Tells g.channel.slot (change_message (view_of g) (map id_of fs) (shape_of c g.standing.role s.max_record ch)))
   says ch g [] sub h roles = absurd h
   says ch g (x ∷ more) sub h roles =
       inl (ap (λ n. Tells g.channel.slot (change_message (view_of g) (map id_of (x ∷ more)) (shape_of c n s.max_record ch))) (roles x (inl refl)))
 
-  role_of : (ch : Change) (g : Member) (x : Subscription) → Among members g → Among subs x → to_member ch g x ≡ true → x.role ≡ g.role
+  role_of : (ch : Change) (g : Member) (x : Subscription) → Among members g → Among subs x → to_member ch g x ≡ true → x.role ≡ g.standing.role
   unfolding now_of
   role_of ch g x here known e = (gets_own c s (story c s before) (story_shaped c s before) tables ch g x here known e).3
 
@@ -76,7 +76,7 @@ module _ (c : Catalog) (s : Settings) (before : List Input) (changes : List Chan
       let found = among_flat subscriptions_of members sub known in
       let g = found.0 in
       let made =
-      among_map (subscription_of g.channel.number g.channel.slot g.role g.claims)
+      among_map (subscription_of g.channel.number g.channel.slot g.standing.role g.standing.claims)
       (enumerate_from g.channel.first_id g.channel.bindings) sub found.2 in
       (g, found.1, ap (λ (x : Subscription). x.channel) (sym made.2))
 
@@ -89,9 +89,9 @@ module _ (c : Catalog) (s : Settings) (before : List Input) (changes : List Chan
       let same : (sub.channel == g.channel.number) ≡ true = subst P (sym own.2) (eqb_same g.channel.number) in
       let fs = filter (to_member ch g) subs in
       let here : Among fs sub = filter_among (to_member ch g) subs sub known (and_all (sub.channel == g.channel.number) (is_of_table c ch.table sub) (verdict_is_sent ch sub) same table sent) in
-      let roles : (x : Subscription) → Among fs x → x.role ≡ g.role =
+      let roles : (x : Subscription) → Among fs x → x.role ≡ g.standing.role =
       λ x h. let k = among_filter (to_member ch g) subs x h in role_of ch g x own.1 k.0 k.1 in
-      let part : Part = Tells g.channel.slot (change_message (view_of g) (map id_of fs) (shape_of c g.role s.max_record ch)) in
+      let part : Part = Tells g.channel.slot (change_message (view_of g) (map id_of fs) (shape_of c g.standing.role s.max_record ch)) in
       let views = map view_of members in
       let told : Among (flat_map (change_parts_to c s subs tables ch) views) part =
       flat_among (change_parts_to c s subs tables ch) views (view_of g) part (map_among view_of members g own.1) (says ch g fs sub here roles) in

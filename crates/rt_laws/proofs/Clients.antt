@@ -12,7 +12,7 @@ use Rattle.rt_presence.specs.Reading.{metas_in}
 use Rattle.rt_presence.proofs.ReadAgain.{read_again}
 use Rattle.rt_catalog.specs.declared.catalog.Catalog.{Catalog}
 use Rattle.rt_entry.specs.declared.input.Input.{Input}
-use Rattle.rt_entry.specs.declared.input.Input.TheVariants.{Opened, Frame, Gone, Poll, Tick, Stop}
+use Rattle.rt_entry.specs.declared.input.Input.TheVariants.{Opened, Frame, Gone, Poll, Tick, Stop, Post}
 use Rattle.rt_entry.specs.declared.input.Settings.{Settings}
 use Rattle.rt_entry.specs.declared.story.Member.{Member}
 use Rattle.rt_entry.specs.declared.story.Track.{Track}
@@ -57,10 +57,11 @@ module _ (now : Now) (h : Member) (in_members : Among now.members h) (rises : Ri
     unfolding doings
     input_holds tables (Opened slot version claims) k = outside tables (Opened slot version claims) tt
     input_holds tables (Gone slot) k = outside tables (Gone slot) tt
+    input_holds tables (Post slot claims ps) k = outside tables (Post slot claims ps) tt
     input_holds tables (Poll changes) k = outside tables (Poll changes) tt
     input_holds tables (Tick moment) k = outside tables (Tick moment) tt
     input_holds tables (Frame slot bytes) k =
-        holds_frame now h in_members rises apart enabled chans refs small below earlier short topics c s slot bytes (opening_in now slot)
+        holds_frame now h in_members rises apart enabled chans refs small below earlier short topics c s tables slot bytes (opening_in now slot)
     input_holds tables Stop k = absurd k
 
 module _ (c : Catalog) (s : Settings) where

@@ -62,14 +62,14 @@ module _ (c : Catalog) (s : Settings) (st : Story) (h : Shaped st) (tables : Lis
 
   -- a subscription of the channel is the member's own
   pub gets_own : (ch : Change) (m : Member) (sub : Subscription) → Among (members_in st) m → Among (subscriptions (members_in st)) sub
-      → gets c s tables ch m.channel.number sub ≡ true → Gets ch m.channel.slot m.role sub
+      → gets c s tables ch m.channel.number sub ≡ true → Gets ch m.channel.slot m.standing.role sub
   unfolding subscriptions
   gets_own ch m sub here known e =
       let parts = and_parts (sub.channel == m.channel.number) (is_of_table c ch.table sub) (is_sent (verdict_of c (rows_of_table tables) sub ch)) e in
       let found = among_flat subscriptions_of (members_in st) sub known in
       let g = found.0 in
       let made =
-      among_map (subscription_of g.channel.number g.channel.slot g.role g.claims)
+      among_map (subscription_of g.channel.number g.channel.slot g.standing.role g.standing.claims)
       (enumerate_from g.channel.first_id g.channel.bindings) sub found.2 in
       let number : g.channel.number ≡ m.channel.number =
       ap (λ (x : Subscription). x.channel) made.2 ∙ same_number sub.channel m.channel.number parts.0 in
@@ -78,7 +78,7 @@ module _ (c : Catalog) (s : Settings) (st : Story) (h : Shaped st) (tables : Lis
         ap (λ (x : Subscription). x.slot) (sym made.2) ∙ ap (λ (x : Member). x.channel.slot) same,
         parts.1,
         ap (λ (x : Subscription). x.role)
-            (sym made.2) ∙ ap (λ (x : Member). x.role) same,
+            (sym made.2) ∙ ap (λ (x : Member). x.standing.role) same,
         parts.2,
       )
 
@@ -90,12 +90,12 @@ module _ (c : Catalog) (s : Settings) (st : Story) (h : Shaped st) (tables : Lis
     channel : Among (members_in st) member
     subs : List Subscription
     some : 0 < length subs
-    each : AllOf (Gets change slot member.role) subs
-    is : m ≡ change_message (view_of member) (map (λ (x : Subscription). x.id) subs) (shape_of c member.role s.max_record change)
+    each : AllOf (Gets change slot member.standing.role) subs
+    is : m ≡ change_message (view_of member) (map (λ (x : Subscription). x.id) subs) (shape_of c member.standing.role s.max_record change)
 
   told_by : (changes : List Change) (slot : ℕ) (m : Message) (ch : Change) (to : ChannelView) (g : Member) (fs : List Subscription) → Among changes ch
       → Among (members_in st) g → view_of g ≡ to
-      → AllOf (Gets ch to.slot g.role) fs → (p : Part) → Among (change_parts c s to ch fs) p → answer_of p ≡ Some (slot, Says m) → Told changes slot m
+      → AllOf (Gets ch to.slot g.standing.role) fs → (p : Part) → Among (change_parts c s to ch fs) p → answer_of p ≡ Some (slot, Says m) → Told changes slot m
   told_by changes slot m ch to g [] a k v all p x e = absurd x
   told_by changes slot m ch to g (sub ∷ more) a k v all p (inr x) e = absurd x
   told_by changes slot m ch to g (sub ∷ more) a k v all p (inl x) e =
@@ -104,7 +104,7 @@ module _ (c : Catalog) (s : Settings) (st : Story) (h : Shaped st) (tables : Lis
       let said : Some (to.slot, Says (words to sub.role)) ≡ Some (slot, Says m) = ap answer_of x ∙ e in
       let at : to.slot ≡ slot = ap slot_said said in
       let is : words to sub.role ≡ m = ap (message_said m) said in
-      let P : ℕ → Type 0 = λ n. AllOf (Gets ch n g.role) (sub ∷ more) in
+      let P : ℕ → Type 0 = λ n. AllOf (Gets ch n g.standing.role) (sub ∷ more) in
       record {
         change = ch;
         among = a;
@@ -113,7 +113,7 @@ module _ (c : Catalog) (s : Settings) (st : Story) (h : Shaped st) (tables : Lis
         subs = sub ∷ more;
         some = omega arith;
         each = subst P at all;
-        is = sym is ∙ ap (words to) all.0.3 ∙ ap (λ view. words view g.role) (sym v);
+        is = sym is ∙ ap (words to) all.0.3 ∙ ap (λ view. words view g.standing.role) (sym v);
       }
 
   views_tell : (changes : List Change) (slot : ℕ) (m : Message) (ch : Change) → Among changes ch → (p : Part) → answer_of p ≡ Some (slot, Says m)
@@ -126,11 +126,11 @@ module _ (c : Catalog) (s : Settings) (st : Story) (h : Shaped st) (tables : Lis
       let number : g.channel.number ≡ r.0.channel = ap (λ (v : ChannelView). v.channel) k.2 in
       let slots : g.channel.slot ≡ r.0.slot = ap (λ (v : ChannelView). v.slot) k.2 in
       let fs = filter (gets c s tables ch r.0.channel) subs in
-      let all : AllOf (Gets ch r.0.slot g.role) fs = all_weaker (Among fs) (Gets ch r.0.slot g.role) fs
+      let all : AllOf (Gets ch r.0.slot g.standing.role) fs = all_weaker (Among fs) (Gets ch r.0.slot g.standing.role) fs
       (λ sub y.
       let f = among_filter (gets c s tables ch r.0.channel) subs sub y in
       let t : gets c s tables ch g.channel.number sub ≡ true = ap (λ n. gets c s tables ch n sub) number ∙ f.1 in
-      let P : ℕ → Type 0 = λ n. Gets ch n g.role sub in
+      let P : ℕ → Type 0 = λ n. Gets ch n g.standing.role sub in
       subst P slots (gets_own ch g sub k.1 f.0 t)) (all_themselves fs) in
       told_by changes slot m ch r.0 g fs a k.1 k.2 all p r.2 e
 
@@ -181,7 +181,7 @@ module _ (c : Catalog) (s : Settings) where
   due_of before changes slot m t =
       let st = story c s before in
       let h = story_shaped c s before in
-      let role = t.member.role in
+      let role = t.member.standing.role in
       record {
         change = t.change;
         among = to_contains changes t.change t.among;
@@ -228,12 +228,12 @@ module _ (c : Catalog) (s : Settings) where
       let h = story_shaped c s before in
       record {
         due = due_of before changes slot m t;
-        verdict = sent_verdict c t.member.role t.change;
-        sent = sent_is (lacks_key t.change) (hides_key c t.member.role t.change);
+        verdict = sent_verdict c t.member.standing.role t.change;
+        sent = sent_is (lacks_key t.change) (hides_key c t.member.standing.role t.change);
         same = all_from (λ (sub : Subscription). verdict_of c
-            (rows_of_table (left before changes)) sub t.change ≡ sent_verdict c t.member.role t.change) t.subs
-            (all_weaker (Gets c s st h (left before changes) t.change slot t.member.role)
+            (rows_of_table (left before changes)) sub t.change ≡ sent_verdict c t.member.standing.role t.change) t.subs
+            (all_weaker (Gets c s st h (left before changes) t.change slot t.member.standing.role)
             (λ (sub : Subscription). verdict_of c (rows_of_table
-            (left before changes)) sub t.change ≡ sent_verdict c t.member.role t.change) t.subs
-            (λ sub g. verdict_is (left before changes) st h t.change slot t.member.role sub g) t.each);
+            (left before changes)) sub t.change ≡ sent_verdict c t.member.standing.role t.change) t.subs
+            (λ sub g. verdict_is (left before changes) st h t.change slot t.member.standing.role sub g) t.each);
       }

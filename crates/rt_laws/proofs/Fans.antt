@@ -10,7 +10,7 @@ use Rattle.rt_catalog.specs.declared.catalog.Catalog.{Catalog}
 use Rattle.rt_change.specs.declared.change.Change.{Change}
 use Rattle.rt_change.specs.Verdicts.{is_truncate}
 use Rattle.rt_entry.specs.declared.input.Input.{Input}
-use Rattle.rt_entry.specs.declared.input.Input.TheVariants.{Opened, Frame, Gone, Poll, Tick, Stop}
+use Rattle.rt_entry.specs.declared.input.Input.TheVariants.{Opened, Frame, Gone, Poll, Tick, Stop, Post}
 use Rattle.rt_entry.specs.declared.input.Settings.{Settings}
 use Rattle.rt_entry.specs.declared.story.Part.{Part}
 use Rattle.rt_entry.specs.declared.answer.Answer.TheVariants as a
@@ -76,6 +76,7 @@ module _ (c : Catalog) (s : Settings) where
   input_answers lane now tables (Opened n v claims) = lane_gives lane (answers_by c s now tables (Opened n v claims))
   input_answers lane now tables (Frame n bytes) = lane_gives lane (answers_by c s now tables (Frame n bytes))
   input_answers lane now tables (Gone n) = lane_gives lane (answers_by c s now tables (Gone n))
+  input_answers lane now tables (Post n claims ps) = lane_gives lane (answers_by c s now tables (Post n claims ps))
   input_answers lane now tables (Tick m) = lane_gives lane (answers_by c s now tables (Tick m))
 
   pub entries_answer : (before : List Input) (i : Input) (lane : ℕ)

@@ -5,17 +5,22 @@ use Rattle.std.specs.List.{filter, flat_map, enumerate_from}
 use Rattle.std.specs.Str.{bytes_eq}
 use Rattle.rt_value.specs.declared.row.Row.{Row}
 use Rattle.rt_value.proofs.Among.{Among}
-use Rattle.rt_value.proofs.Plain.{AllOf, all_flat, all_every, filter_all}
+use Rattle.rt_value.proofs.Plain.{AllOf, all_flat, all_every, filter_all, all_map}
 use Rattle.rt_value.proofs.Moves.{Moves}
+use Rattle.rt_value.specs.declared.claims.Claims.{Claims}
+use Rattle.rt_token.specs.Claims.{is_expired}
+use Rattle.rt_token.specs.Asked.{seconds_of}
 use Rattle.rt_phx.specs.declared.end.EndName.{EndName}
 use Rattle.rt_phx.specs.declared.end.EndName.TheVariants as end_name
+use Rattle.rt_phx.specs.declared.message.Posting.{Posting}
+use Rattle.rt_phx.specs.Posts.{channel_topic, posted_payload}
 use Rattle.rt_filter.specs.declared.subscription.Subscription.{Subscription}
 use Rattle.rt_presence.specs.Trees.{Held}
 use Rattle.rt_catalog.specs.declared.catalog.Catalog.{Catalog}
 use Rattle.rt_change.specs.declared.change.Change.{Change}
 use Rattle.rt_change.specs.Verdicts.{is_truncate}
 use Rattle.rt_entry.specs.declared.input.Input.{Input}
-use Rattle.rt_entry.specs.declared.input.Input.TheVariants.{Opened, Frame, Gone, Poll, Tick, Stop}
+use Rattle.rt_entry.specs.declared.input.Input.TheVariants.{Opened, Frame, Gone, Poll, Tick, Stop, Post}
 use Rattle.rt_entry.specs.declared.input.Settings.{Settings}
 use Rattle.rt_entry.specs.declared.story.Opening.{Opening}
 use Rattle.rt_entry.specs.declared.story.Member.{Member}
@@ -24,7 +29,7 @@ use Rattle.rt_entry.specs.declared.story.Part.{Part}
 use Rattle.rt_entry.specs.declared.story.Part.TheVariants.{Opens, Ends}
 use Rattle.rt_entry.specs.declared.entry.ChannelView.{ChannelView}
 use Rattle.rt_entry.specs.Story.{Now, has, departed_in, is_last, standing_tracks}
-use Rattle.rt_entry.specs.Doings.{in_turn, channels_of, opening_in, end_of, end_if_open, fail, open_parts, is_idle, has_run_out, tick_parts, subscriptions, view_of, opening_of, gets, change_parts, change_parts_to, change_parts_to_all, poll_parts, doings}
+use Rattle.rt_entry.specs.Doings.{in_turn, channels_of, opening_in, end_of, end_if_open, fail, open_parts, is_idle, has_run_out, tick_parts, subscriptions, view_of, opening_of, gets, change_parts, change_parts_to, change_parts_to_all, poll_parts, doings, posting_parts, post_parts, may_post, is_on, broadcast_part}
 use Rattle.rt_entry.specs.Messages.{shown_meta}
 use Rattle.rt_entry.specs.Presence.{client_view}
 use Rattle.rt_laws.specs.After.{tracks_after}
@@ -94,10 +99,21 @@ module _ (now : Now) (h : Member) (in_members : Among now.members h) (rises : Ri
           | false ↦ all_flat IsMute (change_parts_to c s subs tables ch) views (λ to. mute_change to ch (filter (gets c s tables ch to.channel) subs))
         ]
 
+    mute_post : (tables : List (List Row)) (claims : Claims) (ps : List Posting) → AllOf IsMute (post_parts c s now tables claims ps)
+    mute_post tables claims ps =
+        let may = filter (may_post c s now tables claims) ps in
+        elim (is_expired (seconds_of now.moment) claims.exp) as
+        (λ t. AllOf IsMute (elim t [ true ↦ [] | false ↦ flat_map (posting_parts now) may ])) [
+          | true ↦ tt
+          | false ↦ all_flat IsMute (posting_parts now) may (λ p. all_map IsMute (broadcast_part (posted_payload p))
+              (filter (λ (g : Member). is_on (channel_topic p) g.channel) now.members) (λ g. (refl, refl)))
+        ]
+
     pub outside_turn : (tables : List (List Row)) (i : Input) → IsOutside i → Turn (doings c s now tables i) []
     unfolding doings poll_parts
     outside_turn tables (Opened slot version claims) k = open_turn slot (opening_of now version claims)
     outside_turn tables (Gone slot) k = end_if_turn slot end_name.Gone (opening_in now slot)
+    outside_turn tables (Post slot claims ps) k = mute_turn (post_parts c s now tables claims ps) [] (mute_post tables claims ps)
     outside_turn tables (Poll changes) k =
         let subs = subscriptions now.members in
         let views = map view_of now.members in

@@ -8,6 +8,7 @@ use Rattle.std.proofs.lemmas.Slice.Eq.{bytes_eq-Decides}
 use Rattle.rt_value.proofs.Among.{Among}
 use Rattle.rt_value.proofs.Plain.{AllOf, Maybe, all_append, all_every, all_filter, all_map, all_weaker, all_among, all_themselves, any_append, filter_and, filter_alike, filter_all, find_of}
 use Rattle.rt_value.proofs.Moves.{Moves, then_to, moves_same}
+use Rattle.rt_value.specs.declared.row.Row.{Row}
 use Rattle.rt_json.specs.declared.tree.Json.{Json}
 use Rattle.rt_phx.specs.declared.message.Message.{Message}
 use Rattle.rt_phx.specs.declared.end.EndName.TheVariants as end_name
@@ -19,15 +20,16 @@ use Rattle.rt_presence.specs.Trees.{Held}
 use Rattle.rt_catalog.specs.declared.catalog.Catalog.{Catalog}
 use Rattle.rt_entry.specs.declared.input.Settings.{Settings}
 use Rattle.rt_entry.specs.declared.story.Opening.{Opening}
+use Rattle.rt_entry.specs.declared.story.Standing.{Standing}
 use Rattle.rt_entry.specs.declared.story.Channel.{Channel}
 use Rattle.rt_entry.specs.declared.story.Member.{Member}
 use Rattle.rt_entry.specs.declared.story.Track.{Track}
 use Rattle.rt_entry.specs.declared.story.Part.{Part}
 use Rattle.rt_entry.specs.declared.story.Part.TheVariants.{Tells, Joins, Renews, Tracks, Untracks}
-use Rattle.rt_entry.specs.Story.{Now, Standing, has, departed_by, departed_in, is_last}
+use Rattle.rt_entry.specs.Story.{Now, has, departed_by, departed_in, is_last}
 use Rattle.rt_entry.specs.Messages.{presence_state, presence_diff, subscribed_message, joined_response, shown_meta}
 use Rattle.rt_entry.specs.Joining.{Checked, channel_of_join, renewal_of}
-use Rattle.rt_entry.specs.Doings.{tell, in_turn, watches, is_of_slot, channels_of, end_of, is_on, channel_on, track_of, diffs, leave_diffs, close, fail, tell_if, has_bindings, present_on, accept_parts, join_result_parts, others, renewal_parts, gets_broadcast, broadcast_part, broadcast_parts, track_by, track_parts, untrack_part, is_shut, join_over_former, join_parts, ask_parts, channel_parts, message_parts, frame_parts}
+use Rattle.rt_entry.specs.Doings.{tell, in_turn, watches, is_of_slot, channels_of, end_of, is_on, channel_on, track_of, diffs, leave_diffs, close, fail, tell_if, has_bindings, present_on, accept_parts, join_result_parts, others, renewal_parts, gets_broadcast, broadcast_part, broadcast_parts, track_by, track_parts, untrack_part, is_shut, join_over_former, join_parts, ask_parts, channel_parts, message_parts, frame_parts, permitted_parts, judged_parts, denied_ask}
 use Rattle.rt_entry.specs.Presence.{after_message, client_view}
 use Rattle.rt_laws.specs.After.{tracks_in, tracks_after}
 use Rattle.rt_laws.specs.Departures.{leave_for}
@@ -323,7 +325,7 @@ module _ (now : Now) (h : Member) (in_members : Among now.members h) (rises : Ri
       subst S (sym none) (subst R (sym gone) (subst Q (sym (behind held g m (Untracks n ∷ ds))) (subst P (sym said) here)))
 
   holds_renewal : (g : Member) (r : Checked Standing) → Holds (renewal_parts now g r)
-  holds_renewal g (Ok standing) = holds_mute (Renews g.channel.number standing.role standing.claims ∷ []) (tt, tt)
+  holds_renewal g (Ok standing) = holds_mute (Renews g.channel.number standing ∷ []) (tt, tt)
   holds_renewal g (Err why) = holds_by (fail now why [] g) (turns_fail now h in_members rises apart enabled chans refs small why [] g)
 
   holds_leave : (g : Member) (m : Message) → Holds (reply g m ∷ close now [] g)
@@ -335,8 +337,8 @@ module _ (now : Now) (h : Member) (in_members : Among now.members h) (rises : Ri
   mute_broadcast : (ch : Channel) (m : Message) → AllOf IsMute (broadcast_parts now ch m)
   mute_broadcast ch m =
       let to = filter (λ (g : Member). gets_broadcast ch g.channel) now.members in
-      all_append IsMute (tell_if ch.ack ch.slot (reply_ok ch.join_ref m no_members)) (map (broadcast_part m) to)
-      (mute_tell_if ch.ack ch.slot (reply_ok ch.join_ref m no_members) ((refl, refl), tt)) (all_map IsMute (broadcast_part m) to (λ g. (refl, refl)))
+      all_append IsMute (tell_if ch.ack ch.slot (reply_ok ch.join_ref m no_members)) (map (broadcast_part m.payload) to)
+      (mute_tell_if ch.ack ch.slot (reply_ok ch.join_ref m no_members) ((refl, refl), tt)) (all_map IsMute (broadcast_part m.payload) to (λ g. (refl, refl)))
 
   found : (slot : ℕ) (topic : List ℕ) → Maybe (Among now.members) (channel_on now slot topic)
   found slot topic =
@@ -344,42 +346,52 @@ module _ (now : Now) (h : Member) (in_members : Among now.members h) (rises : Ri
       (all_filter (Among now.members) (is_of_slot slot) now.members (all_themselves now.members))
 
   module _ (c : Catalog) (s : Settings) where
-    holds_ask : (o : Opening) (g : Member) (m : Message) (k : Ask) → Among now.members g → Holds (ask_parts c s now o g m k)
-    holds_ask o g m leave here = holds_leave g m
-    holds_ask o g m (renew None) here = holds_mute [] tt
-    holds_ask o g m (renew (Some token)) here = holds_renewal g (renewal_of c s now o g.channel token)
-    holds_ask o g m ask.broadcast here = holds_mute (broadcast_parts now g.channel m) (mute_broadcast g.channel m)
-    holds_ask o g m (track tree) here = holds_track g m tree here
-    holds_ask o g m untrack here = holds_untrack g m (track_of now g.channel.number) refl
-    holds_ask o g m unknown_presence here =
-        holds_mute (tell g.channel.slot (reply_error g.channel.join_ref m (codes "unknown presence event"))) ((refl, refl), tt)
-    holds_ask o g m nothing here = holds_mute [] tt
+    module _ (tables : List (List Row)) where
+      holds_ask : (o : Opening) (g : Member) (m : Message) (k : Ask) → Among now.members g → Holds (ask_parts c s now tables o g m k)
+      holds_ask o g m leave here = holds_leave g m
+      holds_ask o g m (renew None) here = holds_mute [] tt
+      holds_ask o g m (renew (Some token)) here = holds_renewal g (renewal_of c tables s now o g.channel token)
+      holds_ask o g m ask.broadcast here = holds_mute (broadcast_parts now g.channel m) (mute_broadcast g.channel m)
+      holds_ask o g m (track tree) here = holds_track g m tree here
+      holds_ask o g m untrack here = holds_untrack g m (track_of now g.channel.number) refl
+      holds_ask o g m unknown_presence here =
+          holds_mute (tell g.channel.slot (reply_error g.channel.join_ref m (codes "unknown presence event"))) ((refl, refl), tt)
+      holds_ask o g m nothing here = holds_mute [] tt
 
-    holds_channel : (slot : ℕ) (o : Opening) (m : Message) (g : Option Member) → Maybe (Among now.members) g
-        → Holds (channel_parts c s now slot o m g)
-    holds_channel slot o m None here = holds_mute (tell slot (reply_error m.join_ref m (codes "unmatched topic"))) ((refl, refl), tt)
-    holds_channel slot o m (Some g) here =
-        by_case (is_shut g.channel m) (tell slot (reply_error g.channel.join_ref m (codes "presence disabled"))) (ask_parts c s now o g m (ask_of m))
-        (holds_mute (tell slot (reply_error g.channel.join_ref m (codes "presence disabled"))) ((refl, refl), tt)) (holds_ask o g m (ask_of m) here)
+      holds_permitted : (o : Opening) (g : Member) (m : Message) → Among now.members g → Holds (permitted_parts c s now tables o g m)
+      holds_permitted o g m here =
+          let shut = tell g.channel.slot (reply_error g.channel.join_ref m (codes "presence disabled")) in
+          by_case (is_shut g.channel m) shut (ask_parts c s now tables o g m (ask_of m)) (holds_mute shut ((refl, refl), tt))
+          (holds_ask o g m (ask_of m) here)
 
-    holds_join : (slot : ℕ) (o : Opening) (m : Message) → Holds (join_parts c s now slot o m)
-    holds_join slot o m =
-        let former = option_to_list (channel_on now slot m.topic) in
-        by_case (is_channel_topic m.topic) (join_over_former c s now slot o m former) (tell slot (reply_error m.join_ref m (codes "unmatched topic")))
-        (holds_result slot (map (λ (g : Member). g.channel.number) former) m (channel_of_join c s now slot o (others now slot m.topic) m)
-        (join_made now below apart c s slot o (others now slot m.topic) m))
-        (holds_mute (tell slot (reply_error m.join_ref m (codes "unmatched topic"))) ((refl, refl), tt))
+      holds_judged : (o : Opening) (g : Member) (m : Message) (why : Option (List ℕ)) → Among now.members g
+          → Holds (judged_parts c s now tables o g m why)
+      holds_judged o g m None here = holds_permitted o g m here
+      holds_judged o g m (Some why) here = holds_mute (tell g.channel.slot (reply_error g.channel.join_ref m why)) ((refl, refl), tt)
 
-    holds_message : (slot : ℕ) (o : Opening) (m : Option Message) → Holds (message_parts c s now slot o m)
-    holds_message slot o None =
-        holds_by (end_of now [] slot end_name.BadFrame) (end_turn now h in_members rises apart enabled chans refs small [] slot end_name.BadFrame)
-    holds_message slot o (Some m) =
-        by_test (is_heartbeat m) (tell slot (reply_ok m.join_ref m no_members))
-        (if is_join m then join_parts c s now slot o m else channel_parts c s now slot o m (channel_on now slot m.topic))
-        (holds_mute (tell slot (reply_ok m.join_ref m no_members)) ((refl, refl), tt))
-        (by_test (is_join m) (join_parts c s now slot o m) (channel_parts c s now slot o m (channel_on now slot m.topic)) (holds_join slot o m)
-        (holds_channel slot o m (channel_on now slot m.topic) (found slot m.topic)))
+      holds_channel : (slot : ℕ) (o : Opening) (m : Message) (g : Option Member) → Maybe (Among now.members) g
+          → Holds (channel_parts c s now tables slot o m g)
+      holds_channel slot o m None here = holds_mute (tell slot (reply_error m.join_ref m (codes "unmatched topic"))) ((refl, refl), tt)
+      holds_channel slot o m (Some g) here = holds_judged o g m (denied_ask g.standing (ask_of m)) here
 
-    pub holds_frame : (slot : ℕ) (bytes : List ℕ) (o : Option Opening) → Holds (frame_parts c s now slot bytes o)
-    holds_frame slot bytes None = holds_mute [] tt
-    holds_frame slot bytes (Some o) = holds_message slot o (message_of o.version bytes)
+      holds_join : (slot : ℕ) (o : Opening) (m : Message) → Holds (join_parts c s now tables slot o m)
+      holds_join slot o m =
+          let former = option_to_list (channel_on now slot m.topic) in
+          by_case (is_channel_topic m.topic) (join_over_former c s now tables slot o m former) (tell slot (reply_error m.join_ref m (codes "unmatched topic")))
+          (holds_result slot (map (λ (g : Member). g.channel.number) former) m (channel_of_join c tables s now slot o (others now slot m.topic) m)
+          (join_made now below apart c s tables slot o (others now slot m.topic) m))
+          (holds_mute (tell slot (reply_error m.join_ref m (codes "unmatched topic"))) ((refl, refl), tt))
+
+      holds_message : (slot : ℕ) (o : Opening) (m : Option Message) → Holds (message_parts c s now tables slot o m)
+      holds_message slot o None =
+          holds_by (end_of now [] slot end_name.BadFrame) (end_turn now h in_members rises apart enabled chans refs small [] slot end_name.BadFrame)
+      holds_message slot o (Some m) =
+          by_test (is_heartbeat m) (tell slot (reply_ok m.join_ref m no_members))
+          (if is_join m then join_parts c s now tables slot o m else channel_parts c s now tables slot o m (channel_on now slot m.topic))
+          (holds_mute (tell slot (reply_ok m.join_ref m no_members)) ((refl, refl), tt))
+          (by_test (is_join m) (join_parts c s now tables slot o m) (channel_parts c s now tables slot o m (channel_on now slot m.topic)) (holds_join slot o m)
+          (holds_channel slot o m (channel_on now slot m.topic) (found slot m.topic)))
+
+      pub holds_frame : (slot : ℕ) (bytes : List ℕ) (o : Option Opening) → Holds (frame_parts c s now tables slot bytes o)
+      holds_frame slot bytes None = holds_mute [] tt
+      holds_frame slot bytes (Some o) = holds_message slot o (message_of o.version bytes)

@@ -7,11 +7,12 @@ use Rattle.std.proofs.lemmas.List.Elements.{filter-append}
 use Rattle.std.proofs.lemmas.List.Concat.{flat_map-append}
 use Rattle.rt_value.proofs.Plain.{AllOf, any_append, not_or, and_swap, filter_and, filter_same, filter_alike, map_same, map_map, filter_map_swap, reverse_short}
 use Rattle.rt_entry.specs.declared.story.Opening.{Opening}
+use Rattle.rt_entry.specs.declared.story.Standing.{Standing}
 use Rattle.rt_entry.specs.declared.story.Channel.{Channel}
 use Rattle.rt_entry.specs.declared.story.Member.{Member}
 use Rattle.rt_entry.specs.declared.story.Track.{Track}
 use Rattle.rt_entry.specs.declared.story.Part.{Part}
-use Rattle.rt_entry.specs.Story.{Line, Story, Now, Standing, now_of, opening_at, every_slot, moment_at, moment_after, joined, joined_by, departed, departed_in, renewed_by, first_or, has, members_at, member_in, claims_at, standing_of, ids_given, all_tracks, is_last, standing_tracks, present_at}
+use Rattle.rt_entry.specs.Story.{Line, Story, Now, now_of, opening_at, every_slot, moment_at, moment_after, joined, joined_by, departed, departed_in, renewed_by, first_or, has, members_at, member_in, standing_at, ids_given, all_tracks, is_last, standing_tracks, present_at}
 use Rattle.rt_laws.specs.After.{opens_after, joins_of, remains, with_standing, renewed, new_member, members_after, tracks_in, outlasts, tracks_after, after}
 
 first_or_append : {A : Type 0} (d : A) (xs ys : List A) → first_or d (xs ++ ys) ≡ first_or (first_or d ys) xs
@@ -49,10 +50,10 @@ unfolding departed
 departed_grows l before n = any_append (λ m. m == n) (departed_in l.parts) (departed before)
 
 claims_grow : (l : Line) (before : Story) (ch : Channel)
-    → claims_at (l ∷ before) ch ≡ first_or (claims_at before ch) (filter_map (renewed_by ch.number) l.parts)
-unfolding claims_at
+    → standing_at (l ∷ before) ch ≡ first_or (standing_at before ch) (filter_map (renewed_by ch.number) l.parts)
+unfolding standing_at
 claims_grow l before ch =
-    first_or_append (standing_of ch) (filter_map (renewed_by ch.number) l.parts)
+    first_or_append ch.standing (filter_map (renewed_by ch.number) l.parts)
     (flat_map (λ (k : Line). filter_map (renewed_by ch.number) k.parts) before)
 
 abbrev stays_in : Story → Channel → Bool

@@ -117,7 +117,7 @@ all_rise st low high (ch ∷ chs) a =
     let others = flat_map subscriptions_of (map (member_in st) chs) in
     let P : List ℕ → Type 0 = λ ns. RiseWithin low ns high in
     subst P (sym (map-append id_of own others))
-    (counted ch.number ch.slot h.role h.claims low ch.first_id high ch.bindings (map id_of others) a.0
+    (counted ch.number ch.slot h.standing.role h.standing.claims low ch.first_id high ch.bindings (map id_of others) a.0
     (all_rise st (ch.first_id + length ch.bindings) high chs a.1))
 
 pub rise_filter : (p : Subscription → Bool) (low high : ℕ) (xs : List Subscription) → RiseWithin low (map id_of xs) high

@@ -19,7 +19,7 @@ use Rattle.rt_phx.specs.declared.message.Version.{Version}
 use Rattle.rt_phx.specs.declared.message.Version.TheVariants.{V1, V2}
 use Rattle.rt_phx.specs.Fits.{IsRef}
 use Rattle.rt_phx.specs.Frame.{ref_of, no_members, message, message_of, message_of_object, message_of_five, message_of_tree, frame_limit}
-use Rattle.rt_phx.specs.Joins.{Asked, Config, section, switch, key_text, word, asked_in, each_asked, all_asked, config_of}
+use Rattle.rt_phx.specs.Joins.{Asked, Config, Filters, section, switch, key_text, word, each_text, listed, filters_in, asked_in, each_asked, all_asked, config_of}
 use Rattle.rt_entry.specs.Readable.{IsReadable}
 use Rattle.rt_laws.proofs.Fitting.{by_level, null_fits, object_fits, read_fits, member_fits_in, text_in_utf8}
 use Rattle.rt_laws.proofs.Texts as texts
@@ -126,7 +126,7 @@ pub record AskedFits (a : Asked) : Type 0 where
   pub event : IsUtf8 a.event
   pub schema : IsUtf8 a.schema
   pub table : Maybe IsUtf8 a.table
-  pub filter : Maybe IsUtf8 a.filter
+  pub filters : AllOf IsUtf8 a.filters.texts
 
 pub record ConfigFits (c : Config) : Type 0 where
   pub key : IsUtf8 c.key
@@ -148,61 +148,83 @@ word_fits n (Some Null) h = tt
 word_fits n (Some (Text t)) h = text_in_utf8 n (Text t) t h (outs-Text t)
 word_fits n (Some _) h = tt
 
-asked_fits : (n : ℕ) (tree : Json) → FitsWithin (suc (suc n)) tree → Maybe AskedFits (asked_in tree)
+pub consed : {A : Type 0} (B : A → Type 0) (x : A) (o : Option (List A)) → B x → Maybe (AllOf B) o → Maybe (AllOf B) (option_map (λ xs. x ∷ xs) o)
+consed B x None f h = tt
+consed B x (Some xs) f h = (f, h)
+
+each_text_fits : (n : ℕ) (trees : List Json) → AllByRecursion (FitsWithin (suc n)) trees → Maybe (AllOf IsUtf8) (each_text trees)
+each_text_fits n [] h = tt
+each_text_fits n (tree ∷ more) h =
+    bind_of IsUtf8 (AllOf IsUtf8) (text_of tree) (λ t. option_map (λ ts. t ∷ ts) (each_text more)) (text_of_fits n tree h.0)
+    (λ t u. consed IsUtf8 t (each_text more) u (each_text_fits n more h.1))
+
+abbrev FiltersFit : Filters → Type 0
+FiltersFit f = AllOf IsUtf8 f.texts
+
+listed_fit : (o : Option (List (List ℕ))) → Maybe (AllOf IsUtf8) o → Maybe FiltersFit (option_map listed o)
+listed_fit None h = tt
+listed_fit (Some texts) h = h
+
+filters_fit : (n : ℕ) (o : Option Json) → Maybe (FitsWithin (suc (suc n))) o → Maybe FiltersFit (filters_in o)
+filters_fit n None h = tt
+filters_fit n (Some Null) h = tt
+filters_fit n (Some (Text t)) h = (text_in_utf8 (suc n) (Text t) t h (outs-Text t), tt)
+filters_fit n (Some tree) h =
+    bind_of (AllByRecursion (FitsWithin (suc n))) FiltersFit (list_of tree) (λ trees. option_map listed (each_text trees))
+    (list_of_fits (suc n) tree h) (λ trees k. listed_fit (each_text trees) (each_text_fits n trees k))
+
+asked_fits : (n : ℕ) (tree : Json) → FitsWithin (suc (suc (suc n))) tree → Maybe AskedFits (asked_in tree)
 asked_fits n tree h =
     let M : Option (List ℕ) → Type 0 = Maybe IsUtf8 in
-    let at : (name : List ℕ) → Maybe M (word (member_of tree name)) = λ name. word_fits n (member_of tree name)
-    (member_fits_in (suc n) tree name h) in
-    let last : Option (List ℕ) → Option (List ℕ) → Option (List ℕ) → Option (List ℕ) → Option Asked = λ e s t f.
-    Some (record { event = unwrap_or e []; schema = unwrap_or s (codes "public"); table = t; filter = f }) in
+    let at : (name : List ℕ) → Maybe M (word (member_of tree name)) = λ name. word_fits (suc n) (member_of tree name)
+    (member_fits_in (suc (suc n)) tree name h) in
+    let last : Option (List ℕ) → Option (List ℕ) → Option (List ℕ) → Filters → Option Asked = λ e s t f.
+    Some (record { event = unwrap_or e []; schema = unwrap_or s (codes "public"); table = t; filters = f }) in
     bind_of (λ (x : Json). ⊤) AskedFits (some_if (is_object tree) tree) _ (if_of (λ (x : Json). ⊤) (is_object tree) tree tt) (λ _ _.
     bind_of M AskedFits (word (member_of tree (codes "event"))) _ (at (codes "event")) (λ e he.
     bind_of M AskedFits (word (member_of tree (codes "schema"))) _ (at (codes "schema")) (λ s hs.
     bind_of M AskedFits (word (member_of tree (codes "table"))) _ (at (codes "table")) (λ t ht.
-    bind_of M AskedFits (word (member_of tree (codes "filter"))) (last e s t) (at (codes "filter")) (λ f hf.
+    bind_of FiltersFit AskedFits (filters_in (member_of tree (codes "filter"))) (last e s t)
+    (filters_fit n (member_of tree (codes "filter")) (member_fits_in (suc (suc n)) tree (codes "filter") h)) (λ f hf.
     record {
       event = unwrap_of IsUtf8 e [] he (texts.word [] refl);
       schema = unwrap_of IsUtf8 s (codes "public") hs
           (texts.word (codes "public") refl);
       table = ht;
-      filter = hf;
+      filters = hf;
     })))))
 
-consed : (a : Asked) (o : Option (List Asked)) → AskedFits a → Maybe (AllOf AskedFits) o → Maybe (AllOf AskedFits) (option_map (λ as_. a ∷ as_) o)
-consed a None f h = tt
-consed a (Some xs) f h = (f, h)
-
-each_fits : (n : ℕ) (trees : List Json) → AllByRecursion (FitsWithin (suc (suc n))) trees → Maybe (AllOf AskedFits) (each_asked trees)
+each_fits : (n : ℕ) (trees : List Json) → AllByRecursion (FitsWithin (suc (suc (suc n)))) trees → Maybe (AllOf AskedFits) (each_asked trees)
 each_fits n [] h = tt
 each_fits n (tree ∷ more) h =
     bind_of AskedFits (AllOf AskedFits) (asked_in tree) (λ a. option_map (λ as_. a ∷ as_) (each_asked more)) (asked_fits n tree h.0)
-    (λ a f. consed a (each_asked more) f (each_fits n more h.1))
+    (λ a f. consed AskedFits a (each_asked more) f (each_fits n more h.1))
 
-all_fits : (n : ℕ) (o : Option Json) → Maybe (FitsWithin (suc (suc (suc n)))) o → Maybe (AllOf AskedFits) (all_asked o)
+all_fits : (n : ℕ) (o : Option Json) → Maybe (FitsWithin (suc (suc (suc (suc n))))) o → Maybe (AllOf AskedFits) (all_asked o)
 all_fits n None h = tt
-all_fits n (Some tree) h = bind_of (AllByRecursion (FitsWithin (suc (suc n)))) (AllOf AskedFits) (list_of tree) each_asked
-    (list_of_fits (suc (suc n)) tree h) (each_fits n)
+all_fits n (Some tree) h = bind_of (AllByRecursion (FitsWithin (suc (suc (suc n))))) (AllOf AskedFits) (list_of tree) each_asked
+    (list_of_fits (suc (suc (suc n))) tree h) (each_fits n)
 
-pub config_fits : (n : ℕ) (payload : Json) → FitsWithin (suc (suc (suc (suc (suc n))))) payload → Maybe ConfigFits (config_of payload)
+pub config_fits : (n : ℕ) (payload : Json) → FitsWithin (suc (suc (suc (suc (suc (suc n)))))) payload → Maybe ConfigFits (config_of payload)
 unfolding config_of
 config_fits n payload h =
-    let F4 : Json → Type 0 = FitsWithin (suc (suc (suc (suc n)))) in
-    let F3 : Json → Type 0 = FitsWithin (suc (suc (suc n))) in
+    let F4 : Json → Type 0 = FitsWithin (suc (suc (suc (suc (suc n))))) in
+    let F3 : Json → Type 0 = FitsWithin (suc (suc (suc (suc n)))) in
     let any : Bool → Type 0 = λ b. ⊤ in
     let of : (o : Option Bool) → Maybe any o = λ o. elim o as (λ q. Maybe any q) [ None ↦ tt | Some b ↦ tt ] in
     bind_of F4 ConfigFits (section (member_of payload (codes "config"))) _
-    (section_fits (suc (suc (suc n))) (member_of payload (codes "config"))
-    (member_fits_in (suc (suc (suc (suc n)))) payload (codes "config") h)) (λ config hc.
-    let at : (name : List ℕ) → Maybe F3 (member_of config name) = λ name. member_fits_in (suc (suc (suc n))) config name hc in
+    (section_fits (suc (suc (suc (suc n)))) (member_of payload (codes "config"))
+    (member_fits_in (suc (suc (suc (suc (suc n))))) payload (codes "config") h)) (λ config hc.
+    let at : (name : List ℕ) → Maybe F3 (member_of config name) = λ name. member_fits_in (suc (suc (suc (suc n)))) config name hc in
     bind_of F3 ConfigFits (section (member_of config (codes "broadcast"))) _
-    (section_fits (suc (suc n)) (member_of config (codes "broadcast")) (at (codes "broadcast"))) (λ broadcast hb.
+    (section_fits (suc (suc (suc n))) (member_of config (codes "broadcast")) (at (codes "broadcast"))) (λ broadcast hb.
     bind_of F3 ConfigFits (section (member_of config (codes "presence"))) _
-    (section_fits (suc (suc n)) (member_of config (codes "presence")) (at (codes "presence"))) (λ presence hp.
+    (section_fits (suc (suc (suc n))) (member_of config (codes "presence")) (at (codes "presence"))) (λ presence hp.
     bind_of any ConfigFits (switch false (member_of broadcast (codes "ack"))) _ (of _) (λ ack _.
     bind_of any ConfigFits (switch false (member_of broadcast (codes "self"))) _ (of _) (λ own _.
     bind_of any ConfigFits (switch true (member_of presence (codes "enabled"))) _ (of _) (λ enabled _.
     bind_of IsUtf8 ConfigFits (key_text (member_of presence (codes "key"))) _
-    (key_fits (suc n) (member_of presence (codes "key")) (member_fits_in (suc (suc n)) presence (codes "key") hp)) (λ key hk.
+    (key_fits (suc (suc n)) (member_of presence (codes "key")) (member_fits_in (suc (suc (suc n))) presence (codes "key") hp)) (λ key hk.
     bind_of any ConfigFits (switch false (member_of config (codes "private"))) _ (of _) (λ private _.
     let last : List Asked → Option Config = λ bindings. Some
     (record { ack = ack; own = own; presence = enabled; key = key; private = private; bindings = bindings }) in

@@ -11,7 +11,7 @@ use Rattle.rt_phx.specs.Frame.{spelled}
 use Rattle.rt_catalog.specs.declared.catalog.Catalog.{Catalog}
 use Rattle.rt_change.specs.declared.change.Change.{Change}
 use Rattle.rt_entry.specs.declared.input.Input.{Input}
-use Rattle.rt_entry.specs.declared.input.Input.TheVariants.{Opened, Frame, Gone, Poll, Tick, Stop}
+use Rattle.rt_entry.specs.declared.input.Input.TheVariants.{Opened, Frame, Gone, Poll, Tick, Stop, Post}
 use Rattle.rt_entry.specs.declared.input.Settings.{Settings}
 use Rattle.rt_entry.specs.declared.answer.Item.{Item}
 use Rattle.rt_entry.specs.declared.answer.Item.TheVariants as item
@@ -105,6 +105,7 @@ module _ (c : Catalog) (s : Settings) where
   marks_told l slot e now tables (Opened n v claims) = of_lane_told l slot e (answers_by c s now tables (Opened n v claims))
   marks_told l slot e now tables (Frame n bytes) = of_lane_told l slot e (answers_by c s now tables (Frame n bytes))
   marks_told l slot e now tables (Gone n) = of_lane_told l slot e (answers_by c s now tables (Gone n))
+  marks_told l slot e now tables (Post n claims ps) = of_lane_told l slot e (answers_by c s now tables (Post n claims ps))
   marks_told l slot e now tables (Tick m) = of_lane_told l slot e (answers_by c s now tables (Tick m))
 
   marks_of_told : (l slot : ℕ) → slot % s.workers ≡ l → (before : List Input) (i : Input)

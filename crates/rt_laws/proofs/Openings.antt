@@ -10,7 +10,7 @@ use Rattle.rt_value.proofs.Plain.{AllOf, all_append, all_map, all_filter, any_ap
 use Rattle.rt_phx.specs.declared.end.EndName.TheVariants as end_name
 use Rattle.rt_catalog.specs.declared.catalog.Catalog.{Catalog}
 use Rattle.rt_entry.specs.declared.input.Input.{Input}
-use Rattle.rt_entry.specs.declared.input.Input.TheVariants.{Opened, Frame, Gone, Poll, Tick, Stop}
+use Rattle.rt_entry.specs.declared.input.Input.TheVariants.{Opened, Frame, Gone, Poll, Tick, Stop, Post}
 use Rattle.rt_entry.specs.declared.input.Settings.{Settings}
 use Rattle.rt_entry.specs.declared.story.Opening.{Opening}
 use Rattle.rt_entry.specs.declared.story.Member.{Member}
@@ -30,7 +30,7 @@ use Rattle.rt_laws.proofs.Agree.{slots_open}
 use Rattle.rt_laws.proofs.Marks.{told_none, answers_none}
 use Rattle.rt_laws.proofs.Since.{told_by, told_parts, told_more}
 use Rattle.rt_laws.proofs.Turning.{Leads, Mild, left_append, leads_then, mild_leads, ends_leads, state_follows}
-use Rattle.rt_laws.proofs.Whole.{Remains, MaySay, Knows, Goes, more_gone, mild_turn, mild_fail, own_channels, may_say, end_mild, end_own, goes_mild, open_goes, end_if_goes, frame_goes, mild_poll}
+use Rattle.rt_laws.proofs.Whole.{Remains, MaySay, Knows, Goes, more_gone, mild_turn, mild_fail, own_channels, may_say, end_mild, end_own, goes_mild, open_goes, end_if_goes, frame_goes, mild_post, mild_poll}
 use Rattle.rt_laws.proofs.Turns.{same_true, other_false}
 
 no_say : (now : Now) (slot : ℕ) (b : Bool) (n : ℕ) → (n == slot) ≡ false → MaySay now slot b n
@@ -195,8 +195,9 @@ module _ (now : Now) (slot : ℕ) where
 
         by : (j : Input) → Goes now slot b (doings c s now tables j)
         by (Opened n version claims) = open_goes now slot b n (opening_of now version claims) (knows n) r
-        by (Frame n bytes) = frame_goes now slot below apart c s b n bytes (opening_in now n) (knows n) r
+        by (Frame n bytes) = frame_goes now slot below apart c s tables b n bytes (opening_in now n) (knows n) r
         by (Gone n) = end_if_goes now slot b n end_name.Gone (opening_in now n) (knows n) r
+        by (Post n claims ps) = goes_mild now slot b _ (mild_post now slot below apart c s b tables claims ps r)
         by (Poll changes) = goes_mild now slot b _ (mild_poll now slot below apart c s b tables changes r)
         by (Tick m) = ticks b m 0 now.opens [] (omega arith) holds r
         by Stop = (false, stops_end b 0 now.opens (omega arith) (omega arith) holds)

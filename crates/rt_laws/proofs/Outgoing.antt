@@ -1,6 +1,6 @@
 -- Each message that the server builds is readable.
 use Rattle.std.proofs.Common.{◌≡◌, ℕ, suc, ◌+◌, ◌<◌, ◌≤◌, true, List, [], ◌∷◌, ◌++◌, map, length, Option, Some, None, refl, arith}
-use Rattle.std.specs.Prelude.{◌^◌, IsUtf8, codes}
+use Rattle.std.specs.Prelude.{◌^◌, IsUtf8, codes, Bool, false, option_map}
 use Rattle.std.specs.Fmt.{decimal}
 use Rattle.std.specs.List.{filter, enumerate_from, list_all}
 use Rattle.std.specs.Str.{bytes_eq}
@@ -16,16 +16,19 @@ use Rattle.rt_json.specs.Fits.{FitsWithin}
 use Rattle.rt_json.specs.Lookup.{members_of}
 use Rattle.rt_json.specs.Trees.{field}
 use Rattle.rt_phx.specs.declared.message.Message.{Message}
-use Rattle.rt_phx.specs.Fits.{IsRef}
+use Rattle.rt_phx.specs.declared.message.Posting.{Posting}
+use Rattle.rt_phx.specs.Fits.{IsRef, IsPosted}
+use Rattle.rt_phx.specs.Posts.{posted_payload}
 use Rattle.rt_phx.specs.Frame.{no_members}
 use Rattle.rt_phx.specs.Says.{reply_payload, reply_ok, reason_of, reply_error, system_payload, number_tree}
 use Rattle.rt_presence.specs.Trees.{Held, is_kept, under_key, metas_of, metas_tree}
 use Rattle.rt_registry.specs.declared.binding.Binding.{Binding}
 use Rattle.rt_registry.specs.declared.binding.Subscribed.{Subscribed}
+use Rattle.rt_entry.specs.declared.story.Standing.{Standing}
 use Rattle.rt_entry.specs.declared.story.Channel.{Channel}
 use Rattle.rt_entry.specs.declared.story.Track.{Track}
 use Rattle.rt_entry.specs.declared.entry.ChannelView.{ChannelView}
-use Rattle.rt_entry.specs.Messages.{channel_message, close_message, channel_name, subscribed_message, failed_message, text_field, binding_tree, joined_response, shown_meta, presence_state, presence_diff, broadcast_message, change_message}
+use Rattle.rt_entry.specs.Messages.{channel_message, close_message, channel_name, subscribed_message, failed_message, tree_field, filter_tree, binding_tree, joined_response, shown_meta, presence_state, presence_diff, broadcast_message, change_message}
 use Rattle.rt_entry.specs.Readable.{IsReadable}
 use Rattle.rt_laws.proofs.Fitting.{MemberFits, text_fits, number_fits, list_fits, object_fits, fits_up, members_fits}
 use Rattle.rt_laws.proofs.Texts.{is_ascii_byte, word, decimal_utf8, decimal_number}
@@ -39,10 +42,15 @@ pub record BindingFits (b : Binding) : Type 0 where
   pub event : IsUtf8 b.wanted
   pub schema : IsUtf8 b.schema
   pub table : Maybe IsUtf8 b.table
-  pub filter : Maybe IsUtf8 b.filter
+  pub filters : AllOf IsUtf8 b.filters
 
 abbrev pub SubscribedFits : Subscribed → Type 0
 SubscribedFits s = BindingFits s.binding
+
+-- the reasons of what is denied
+pub record StandingFits (x : Standing) : Type 0 where
+  pub send : Maybe IsUtf8 x.send
+  pub track : Maybe IsUtf8 x.track
 
 -- what is said of a channel
 pub record ChannelFits (ch : Channel) : Type 0 where
@@ -50,6 +58,7 @@ pub record ChannelFits (ch : Channel) : Type 0 where
   pub topic : IsUtf8 ch.topic
   pub name : IsUtf8 (channel_name ch)
   pub key : IsUtf8 ch.key
+  pub standing : StandingFits ch.standing
   pub bindings : AllOf SubscribedFits ch.bindings
   pub few : length ch.bindings ≤ 100
   pub ids : Small (ch.first_id + length ch.bindings)
@@ -90,10 +99,19 @@ numbered_all B n below (x ∷ xs) le a = (((omega arith), a.0), numbered_all B (
 pub text_member : (n : ℕ) (name text : List ℕ) → list_all is_ascii_byte name ≡ true → IsUtf8 text → MemberFits n (field name (Text text))
 text_member n name text a u = (word name a, text_fits n text u)
 
-maybe_text : (n : ℕ) (name : List ℕ) (o : Option (List ℕ)) → list_all is_ascii_byte name ≡ true → Maybe IsUtf8 o
-    → AllOf (MemberFits n) (text_field name o)
-maybe_text n name None a h = tt
-maybe_text n name (Some t) a h = (text_member n name t a h, tt)
+tree_member : (n : ℕ) (name : List ℕ) (o : Option Json) → list_all is_ascii_byte name ≡ true → Maybe (FitsWithin n) o
+    → AllOf (MemberFits n) (tree_field name o)
+tree_member n name None a h = tt
+tree_member n name (Some tree) a h = ((word name a, h), tt)
+
+text_tree : (n : ℕ) (o : Option (List ℕ)) → Maybe IsUtf8 o → Maybe (FitsWithin n) (option_map Text o)
+text_tree n None h = tt
+text_tree n (Some t) h = text_fits n t h
+
+filters_tree : (n : ℕ) (listed : Bool) (texts : List (List ℕ)) → AllOf IsUtf8 texts → Maybe (FitsWithin (suc n)) (filter_tree listed texts)
+filters_tree n true texts a = list_fits n (map Text texts) (all_map_of (FitsWithin n) IsUtf8 Text texts (λ t u. text_fits n t u) a)
+filters_tree n false [] a = tt
+filters_tree n false (t ∷ more) a = text_fits (suc n) t a.0
 
 number_tree_fits : (levels n : ℕ) → Small n → FitsWithin levels (number_tree n)
 number_tree_fits levels n small = number_fits levels (decimal n) (decimal_number n small)
@@ -142,27 +160,39 @@ system_fits n text status extension channel a b d e =
       ),
     )
 
-binding_fits : (n below : ℕ) (b : ℕ × Subscribed) → below ≤ 10 ^ 64 → Numbered below SubscribedFits b → FitsWithin (suc n) (binding_tree b)
+binding_fits : (n below : ℕ) (b : ℕ × Subscribed) → below ≤ 10 ^ 64 → Numbered below SubscribedFits b
+    → FitsWithin (suc (suc n)) (binding_tree b)
 binding_fits n below b le h =
     let lt = h.0 in
     let small : Small b.0 = omega arith in
     let f = h.1 in
-    let table = text_field (codes "table") b.1.binding.table in
-    let filter = text_field (codes "filter") b.1.binding.filter in
+    let table = tree_field (codes "table") (option_map Text b.1.binding.table) in
+    let filter = tree_field (codes "filter") (filter_tree b.1.binding.listed b.1.binding.filters) in
     let front = field (codes "id") (number_tree b.0) ∷ field (codes "event") (Text b.1.binding.wanted) ∷ field (codes "schema")
     (Text b.1.binding.schema) ∷ table in
-    let fits = all_append (MemberFits n) front filter (
-      (word (codes "id") refl, number_tree_fits n b.0 small),
+    let fits = all_append (MemberFits (suc n)) front filter (
+      (word (codes "id") refl, number_tree_fits (suc n) b.0 small),
       (
-        text_member n (codes "event") b.1.binding.wanted refl f.event,
+        text_member (suc n) (codes "event") b.1.binding.wanted refl f.event,
         (
-          text_member n (codes "schema") b.1.binding.schema refl f.schema,
-          maybe_text n (codes "table") b.1.binding.table refl f.table,
+          text_member (suc n) (codes "schema") b.1.binding.schema refl f.schema,
+          tree_member (suc n) (codes "table") (option_map Text b.1.binding.table) refl (text_tree (suc n) b.1.binding.table f.table),
         ),
       ),
     )
-    (maybe_text n (codes "filter") b.1.binding.filter refl f.filter) in
-    object_fits n (front ++ filter) fits
+    (tree_member (suc n) (codes "filter") (filter_tree b.1.binding.listed b.1.binding.filters) refl
+    (filters_tree n b.1.binding.listed b.1.binding.filters f.filters)) in
+    object_fits (suc n) (front ++ filter) fits
+
+-- what the channels of a post are told
+pub posted_fits : (p : Posting) → IsPosted p → FitsWithin 63 (posted_payload p)
+posted_fits p is =
+    let payload = fits_up 1 61 p.payload is.payload in
+    object_fits 62
+    (field (codes "type") (Text (codes "broadcast")) ∷ field (codes "event") (Text p.event) ∷ field (codes "payload") p.payload ∷ []) (
+      text_member 62 (codes "type") (codes "broadcast") refl (word (codes "broadcast") refl),
+      (text_member 62 (codes "event") p.event refl is.event, ((word (codes "payload") refl, payload), tt)),
+    )
 
 module _ (ch : Channel) (f : ChannelFits ch) where
   on_channel : (event : List ℕ) (payload : Json) → list_all is_ascii_byte event ≡ true → FitsWithin 66 payload
@@ -194,7 +224,7 @@ module _ (ch : Channel) (f : ChannelFits ch) where
       let below = ch.first_id + length ch.bindings in
       let small = f.ids in
       let numbered = enumerate_from ch.first_id ch.bindings in
-      let trees = all_map_of (FitsWithin 63) (Numbered below SubscribedFits) binding_tree numbered (λ b h. binding_fits 62 below b (omega arith) h)
+      let trees = all_map_of (FitsWithin 63) (Numbered below SubscribedFits) binding_tree numbered (λ b h. binding_fits 61 below b (omega arith) h)
       (numbered_all SubscribedFits ch.first_id below ch.bindings (omega arith) f.bindings) in
       object_fits 64 (field (codes "postgres_changes") (j.List (map binding_tree numbered)) ∷ [])
       ((word (codes "postgres_changes") refl, list_fits 63 (map binding_tree numbered) trees), tt)

@@ -1,6 +1,6 @@
 -- What a client holds by what its slot was given.
-use Rattle.std.proofs.Common.{◌≡◌, ℕ, suc, Bool, List, [], ◌∷◌, ◌++◌, map, Option, Some, None, refl, sym, ap, subst, ◌∙◌}
-use Rattle.std.specs.Prelude.{codes, unwrap_or, IsUtf8, IsPermutation}
+use Rattle.std.proofs.Common.{◌≡◌, ℕ, suc, Bool, List, [], ◌∷◌, ◌++◌, map, Option, Some, None, refl, sym, ap, subst, ◌∙◌, arith}
+use Rattle.std.specs.Prelude.{codes, unwrap_or, All, IsUtf8, IsPermutation}
 use Rattle.std.specs.List.{filter, filter_map, cons_option, AllByRecursion}
 use Rattle.std.specs.Str.{bytes_eq}
 use Rattle.std.proofs.lemmas.List.Elements.{filter-append, filter_map-append}
@@ -17,7 +17,7 @@ use Rattle.rt_json.specs.Written.{written}
 use Rattle.rt_phx.specs.declared.message.Message.{Message}
 use Rattle.rt_phx.specs.declared.message.Version.{Version}
 use Rattle.rt_phx.specs.declared.message.Version.TheVariants.{V1, V2}
-use Rattle.rt_phx.specs.Fits.{IsRef}
+use Rattle.rt_phx.specs.Fits.{IsRef, IsPosted}
 use Rattle.rt_phx.specs.Frame.{ref_of, no_members, message, message_of_five, message_of_tree, spelled, tree_of_message}
 use Rattle.rt_catalog.specs.declared.catalog.Catalog.{Catalog}
 use Rattle.rt_entry.specs.declared.input.Input.{Input}
@@ -154,10 +154,15 @@ module _ (levels : ℕ) (read : List ℕ → Option Json) (reader : IsReader (su
       let P : List Held → Type 0 = λ x. IsPermutation x present in
       subst P (sym is) (holds held)
 
+all_given : {A : Type 0} (B : A → Type 0) (xs : List A) → All B xs → AllOf B xs
+all_given B [] a = tt
+all_given B (x ∷ xs) a = (a 0 x (omega arith), all_given B xs (λ k d lt. a (suc k) d (omega arith)))
+
 -- changes of lines can be told
 lines_fit : (c : Catalog) (i : Input) → IsOfLines c i → InputFits i
 lines_fit c (input.Poll changes) lines = all_of_lines c changes lines
 lines_fit c (input.Opened slot version claims) lines = tt
+lines_fit c (input.Post slot claims ps) lines = all_given IsPosted ps lines
 lines_fit c (input.Frame slot bytes) lines = tt
 lines_fit c (input.Gone slot) lines = tt
 lines_fit c (input.Tick n) lines = tt

@@ -10,14 +10,18 @@ use Rattle.rt_value.specs.declared.claims.Claims.{Claims}
 use Rattle.rt_value.proofs.Among.{Among, among_filter, filter_among}
 use Rattle.rt_value.proofs.Plain.{AllOf, all_append, all_flat, all_map, all_map_of, all_filter, all_every, all_among, all_themselves, Maybe, find_of, any_among}
 use Rattle.rt_json.specs.Lookup.{member_of}
+use Rattle.rt_token.specs.Claims.{is_expired}
+use Rattle.rt_token.specs.Asked.{seconds_of}
 use Rattle.rt_phx.specs.declared.message.Message.{Message}
 use Rattle.rt_phx.specs.declared.end.EndName.{EndName}
 use Rattle.rt_phx.specs.declared.end.EndName.TheVariants as end_name
 use Rattle.rt_phx.specs.Frame.{message_of, no_members}
 use Rattle.rt_phx.specs.Joins.{Config, config_of}
 use Rattle.rt_phx.specs.Says.{reply_ok, reply_error}
-use Rattle.rt_phx.specs.Asks.{Ask, leave, renew, track, untrack, unknown_presence, nothing, ask_of, is_heartbeat, is_join, is_channel_topic}
+use Rattle.rt_phx.specs.Asks.{Ask, leave, renew, track, untrack, unknown_presence, nothing, ask_of, is_heartbeat, is_join, is_channel_topic, name_in}
 use Rattle.rt_phx.specs.Asks as ask
+use Rattle.rt_phx.specs.declared.message.Posting.{Posting}
+use Rattle.rt_phx.specs.Posts.{channel_topic, posted_payload}
 use Rattle.rt_filter.specs.declared.subscription.Subscription.{Subscription}
 use Rattle.rt_catalog.specs.declared.catalog.Catalog.{Catalog}
 use Rattle.rt_change.specs.declared.change.Change.{Change}
@@ -25,19 +29,20 @@ use Rattle.rt_change.specs.Verdicts.{is_truncate}
 use Rattle.rt_registry.specs.declared.binding.Subscribed.{Subscribed}
 use Rattle.rt_registry.specs.Bindings.{role_for, bindings_for}
 use Rattle.rt_entry.specs.declared.input.Input.{Input}
-use Rattle.rt_entry.specs.declared.input.Input.TheVariants.{Opened, Frame, Gone, Poll, Tick, Stop}
+use Rattle.rt_entry.specs.declared.input.Input.TheVariants.{Opened, Frame, Gone, Poll, Tick, Stop, Post}
 use Rattle.rt_entry.specs.declared.input.Settings.{Settings}
 use Rattle.rt_entry.specs.declared.story.Opening.{Opening}
+use Rattle.rt_entry.specs.declared.story.Standing.{Standing}
 use Rattle.rt_entry.specs.declared.story.Channel.{Channel}
 use Rattle.rt_entry.specs.declared.story.Member.{Member}
 use Rattle.rt_entry.specs.declared.story.Track.{Track}
 use Rattle.rt_entry.specs.declared.story.Part.{Part}
 use Rattle.rt_entry.specs.declared.story.Part.TheVariants.{Opens, Ends, Tells, Joins, Renews, Tracks, Untracks, Departs}
 use Rattle.rt_entry.specs.declared.entry.ChannelView.{ChannelView}
-use Rattle.rt_entry.specs.Story.{Now, Standing, departed_in, has}
+use Rattle.rt_entry.specs.Story.{Now, departed_in, has}
 use Rattle.rt_entry.specs.Messages.{subscribed_message, presence_state, joined_response}
-use Rattle.rt_entry.specs.Joining.{Checked, ◌>>◌, or_why, demand, told_by, registry_text, channel_limit, binding_of, key_of, join_ref_of, asked_claims, channel_of_join, renewal_of}
-use Rattle.rt_entry.specs.Doings.{tell, in_turn, opening_in, is_of_slot, is_on, channels_of, channel_on, track_of, watches, diff_to, diffs, leave_diffs, depart, end_of, end_if_open, close, fail, tell_if, open_parts, has_bindings, present_on, join_result_parts, others, renewal_parts, gets_broadcast, broadcast_part, broadcast_parts, track_by, untrack_part, untrack_parts, is_shut, is_idle, has_run_out, tick_parts, departs_of, stop_parts, subscriptions, view_of, opening_of, join_over_former, join_parts, ask_parts, channel_parts, message_parts, frame_parts, gets, change_parts, change_parts_to, change_parts_to_all, poll_parts, doings}
+use Rattle.rt_entry.specs.Joining.{Checked, ◌>>◌, or_why, demand, told_by, registry_text, channel_limit, binding_of, key_of, join_ref_of, asked_claims, channel_of_join, renewal_of, standing_for, is_as_private, has_presence}
+use Rattle.rt_entry.specs.Doings.{tell, in_turn, opening_in, is_of_slot, is_on, channels_of, channel_on, track_of, watches, diff_to, diffs, leave_diffs, depart, end_of, end_if_open, close, fail, tell_if, open_parts, has_bindings, present_on, join_result_parts, others, renewal_parts, gets_broadcast, broadcast_part, broadcast_parts, track_by, untrack_part, untrack_parts, is_shut, is_idle, has_run_out, tick_parts, departs_of, stop_parts, subscriptions, view_of, opening_of, join_over_former, join_parts, ask_parts, channel_parts, message_parts, frame_parts, gets, change_parts, change_parts_to, change_parts_to_all, poll_parts, doings, posting_parts, post_parts, may_post, permitted_parts, judged_parts, denied_ask}
 
 -- only a poll says changes
 abbrev pub Fine : Bool → Message → Type 0
@@ -53,7 +58,7 @@ Plain b n (Opens s o) = ⊤
 Plain b n (Ends s name) = ⊤
 Plain b n (Tells s m) = Fine b m
 Plain b n (Joins ch) = ⊥
-Plain b n (Renews m role claims) = m < n
+Plain b n (Renews m x) = m < n
 Plain b n (Tracks t) = ⊥
 Plain b n (Untracks m) = ⊤
 Plain b n (Departs m) = m < n
@@ -63,7 +68,7 @@ Quiet b (Opens s o) = ⊥
 Quiet b (Ends s name) = ⊥
 Quiet b (Tells s m) = Fine b m
 Quiet b (Joins ch) = ⊥
-Quiet b (Renews m role claims) = ⊥
+Quiet b (Renews m x) = ⊥
 Quiet b (Tracks t) = ⊥
 Quiet b (Untracks m) = ⊥
 Quiet b (Departs m) = ⊥
@@ -126,6 +131,11 @@ pub option_all : {A : Type 0} (B : A → Type 0) (o : Option A) → Maybe B o �
 option_all B None h = tt
 option_all B (Some x) h = (h, tt)
 
+pub all_flat_of : {A C : Type 0} (B : A → Type 0) (D : C → Type 0) (f : C → List A) (xs : List C) → ((x : C) → D x → AllOf B (f x)) → AllOf D xs
+    → AllOf B (flat_map f xs)
+all_flat_of B D f [] h a = tt
+all_flat_of B D f (x ∷ xs) h a = all_append B (f x) (flat_map f xs) (h x a.0) (all_flat_of B D f xs h a.1)
+
 plain_turn : {A : Type 0} (n : ℕ) (act : List ℕ → A → List Part) (B : A → Type 0)
     → ((gone : List ℕ) (x : A) → B x → AllOf (Plain true n) (act gone x))
     → (gone : List ℕ) (xs : List A) → AllOf B xs → AllOf (Plain true n) (in_turn act gone xs)
@@ -173,8 +183,8 @@ plain_untracks n now ch m =
 plain_broadcast : (n : ℕ) (now : Now) (ch : Channel) (m : Message) → AllOf (Plain true n) (broadcast_parts now ch m)
 plain_broadcast n now ch m =
     let to = filter (λ (h : Member). gets_broadcast ch h.channel) now.members in
-    all_append (Plain true n) (tell_if ch.ack ch.slot (reply_ok ch.join_ref m no_members)) (map (broadcast_part m) to)
-    (plain_tell_if n ch.ack ch.slot (reply_ok ch.join_ref m no_members) refl) (all_map (Plain true n) (broadcast_part m) to (λ h. refl))
+    all_append (Plain true n) (tell_if ch.ack ch.slot (reply_ok ch.join_ref m no_members)) (map (broadcast_part m.payload) to)
+    (plain_tell_if n ch.ack ch.slot (reply_ok ch.join_ref m no_members) refl) (all_map (Plain true n) (broadcast_part m.payload) to (λ h. refl))
 
 -- the number, the slot, the topic and the ids of a channel that a join makes
 abbrev pub IsMade : Now → ℕ → List ℕ → Checked Channel → Type 0
@@ -291,87 +301,100 @@ module _ (now : Now) (a : AllOf (Below now.number) now.members) (apart : AreApar
       plain (all_append (Plain true now.number) front (tell slot (reply_error m.join_ref m why)) f (refl, tt))
 
   module _ (c : Catalog) (s : Settings) where
-    pub join_made : (slot : ℕ) (o : Opening) (others : ℕ) (m : Message) → IsMade now slot m.topic (channel_of_join c s now slot o others m)
-    unfolding channel_of_join
-    join_made slot o others m =
-        let made : Config → Claims → ℕ → List Subscribed → Checked Channel = λ config claims role bindings. Ok (record {
-          number = now.number;
-          slot = slot;
-          topic = m.topic;
-          join_ref = join_ref_of m;
-          role = role;
-          claims = claims;
-          bindings = bindings;
-          first_id = now.ids + 1;
-          ack = config.ack;
-          own = config.own;
-          presence = config.presence;
-          key = key_of now.number config.key;
-        }) in
-        let with_role : Config → Claims → ℕ → Checked Channel = λ config claims role.
-        demand (nat_lt others channel_limit) (codes "too many channels") >> λ _. told_by registry_text
-        (bindings_for c claims (map binding_of config.bindings)) >> made config claims role in
-        let with_claims : Config → Claims → Checked Channel = λ config claims. told_by registry_text (role_for c claims) >> with_role config claims in
-        let with_config : Config → Checked Channel = λ config.
-        demand (not config.private) (codes "private channel") >> λ _. asked_claims s now o
-        (member_of m.payload (codes "access_token")) >> with_claims config in
-        made_by now slot m.topic (or_why (codes "bad config") (config_of m.payload)) with_config (λ config.
-        made_by now slot m.topic (demand (not config.private) (codes "private channel"))
-        (λ _. asked_claims s now o (member_of m.payload (codes "access_token")) >> with_claims config) (λ x.
-        made_by now slot m.topic (asked_claims s now o (member_of m.payload (codes "access_token"))) (with_claims config) (λ claims.
-        made_by now slot m.topic (told_by registry_text (role_for c claims)) (with_role config claims) (λ role.
-        made_by now slot m.topic (demand (nat_lt others channel_limit) (codes "too many channels"))
-        (λ _. told_by registry_text (bindings_for c claims (map binding_of config.bindings)) >> made config claims role) (λ y.
-        made_by now slot m.topic (told_by registry_text (bindings_for c claims (map binding_of config.bindings))) (made config claims role)
-        (λ bindings. (refl, refl, refl, refl)))))))
+    module _ (tables : List (List Row)) where
+      pub join_made : (slot : ℕ) (o : Opening) (others : ℕ) (m : Message) → IsMade now slot m.topic (channel_of_join c tables s now slot o others m)
+      unfolding channel_of_join
+      join_made slot o others m =
+          let name = name_in m.topic in
+          let token = member_of m.payload (codes "access_token") in
+          made_by now slot m.topic (or_why (codes "bad config") (config_of m.payload)) _ (λ config.
+          made_by now slot m.topic (demand (is_as_private c config.private) (codes "private channel")) _ (λ _.
+          made_by now slot m.topic (asked_claims s now o token) _ (λ claims.
+          made_by now slot m.topic (standing_for c tables name claims) _ (λ standing.
+          made_by now slot m.topic (demand (nat_lt others channel_limit) (codes "too many channels")) _ (λ _.
+          made_by now slot m.topic (told_by registry_text (bindings_for c claims (map binding_of config.bindings)))
+          (λ bindings. Ok (record {
+            number = now.number;
+            slot = slot;
+            topic = m.topic;
+            join_ref = join_ref_of m;
+            standing = standing;
+            bindings = bindings;
+            first_id = now.ids + 1;
+            ack = config.ack;
+            own = config.own;
+            presence = has_presence c tables config name standing;
+            key = key_of now.number config.key;
+          }))
+          (λ bindings. (refl, refl, refl, refl)))))))
 
-    shape_join : (slot : ℕ) (o : Opening) (m : Message) → Shaped (join_parts c s now slot o m)
-    shape_join slot o m =
-        let former = option_to_list (channel_on now slot m.topic) in
-        by_case (is_channel_topic m.topic) (join_over_former c s now slot o m former) (tell slot (reply_error m.join_ref m (codes "unmatched topic")))
-        (shape_result slot (map (λ (h : Member). h.channel.number) former) m (in_turn (close now) [] former)
-        (channel_of_join c s now slot o (others now slot m.topic) m)
-        (plain_turn now.number (close now) (Below now.number) (λ g h b. plain_close now.number now g h b) [] former
-        (option_all (Below now.number) (channel_on now slot m.topic) (found_below slot m.topic)))
-        (join_made slot o (others now slot m.topic) m) (room slot m.topic))
-        (plain (refl, tt))
+      shape_join : (slot : ℕ) (o : Opening) (m : Message) → Shaped (join_parts c s now tables slot o m)
+      shape_join slot o m =
+          let former = option_to_list (channel_on now slot m.topic) in
+          by_case (is_channel_topic m.topic) (join_over_former c s now tables slot o m former) (tell slot (reply_error m.join_ref m (codes "unmatched topic")))
+          (shape_result slot (map (λ (h : Member). h.channel.number) former) m (in_turn (close now) [] former)
+          (channel_of_join c tables s now slot o (others now slot m.topic) m)
+          (plain_turn now.number (close now) (Below now.number) (λ g h b. plain_close now.number now g h b) [] former
+          (option_all (Below now.number) (channel_on now slot m.topic) (found_below slot m.topic)))
+          (join_made slot o (others now slot m.topic) m) (room slot m.topic))
+          (plain (refl, tt))
 
-    shape_ask : (o : Opening) (h : Member) (m : Message) (k : Ask) → Among now.members h → Shaped (ask_parts c s now o h m k)
-    shape_ask o h m leave here = plain (refl, plain_close now.number now [] h (all_among (Below now.number) now.members h a here))
-    shape_ask o h m (renew None) here = plain tt
-    shape_ask o h m (renew (Some token)) here =
-        plain (plain_renewal now.number now h (renewal_of c s now o h.channel token) (all_among (Below now.number) now.members h a here))
-    shape_ask o h m ask.broadcast here = plain (plain_broadcast now.number now h.channel m)
-    shape_ask o h m (track tree) here =
-        let t = track_by now h.channel tree in
-        tracking (tell h.channel.slot (reply_ok h.channel.join_ref m no_members)) t
-        (diffs now [] h.channel.topic (t ∷ []) (option_to_list (track_of now h.channel.number)))
-        (refl, tt) (quiet_diffs now [] h.channel.topic (t ∷ []) (option_to_list (track_of now h.channel.number)))
-        (any_among (λ (g : Member). g.channel.number == h.channel.number) now.members h here (eqb_same h.channel.number))
-        (all_among (Below now.number) now.members h a here) (record { member = h; here = here; number = refl; topic = refl; reference = refl }) refl
-    shape_ask o h m untrack here = plain (plain_untracks now.number now h.channel m)
-    shape_ask o h m unknown_presence here = plain (refl, tt)
-    shape_ask o h m nothing here = plain tt
+      shape_ask : (o : Opening) (h : Member) (m : Message) (k : Ask) → Among now.members h → Shaped (ask_parts c s now tables o h m k)
+      shape_ask o h m leave here = plain (refl, plain_close now.number now [] h (all_among (Below now.number) now.members h a here))
+      shape_ask o h m (renew None) here = plain tt
+      shape_ask o h m (renew (Some token)) here =
+          plain (plain_renewal now.number now h (renewal_of c tables s now o h.channel token) (all_among (Below now.number) now.members h a here))
+      shape_ask o h m ask.broadcast here = plain (plain_broadcast now.number now h.channel m)
+      shape_ask o h m (track tree) here =
+          let t = track_by now h.channel tree in
+          tracking (tell h.channel.slot (reply_ok h.channel.join_ref m no_members)) t
+          (diffs now [] h.channel.topic (t ∷ []) (option_to_list (track_of now h.channel.number)))
+          (refl, tt) (quiet_diffs now [] h.channel.topic (t ∷ []) (option_to_list (track_of now h.channel.number)))
+          (any_among (λ (g : Member). g.channel.number == h.channel.number) now.members h here (eqb_same h.channel.number))
+          (all_among (Below now.number) now.members h a here) (record { member = h; here = here; number = refl; topic = refl; reference = refl }) refl
+      shape_ask o h m untrack here = plain (plain_untracks now.number now h.channel m)
+      shape_ask o h m unknown_presence here = plain (refl, tt)
+      shape_ask o h m nothing here = plain tt
 
-    shape_channel : (slot : ℕ) (o : Opening) (m : Message) (h : Option Member) → Maybe (Among now.members) h
-        → Shaped (channel_parts c s now slot o m h)
-    shape_channel slot o m None here = plain (refl, tt)
-    shape_channel slot o m (Some h) here =
-        by_case (is_shut h.channel m) (tell slot (reply_error h.channel.join_ref m (codes "presence disabled")))
-        (ask_parts c s now o h m (ask_of m)) (plain (refl, tt)) (shape_ask o h m (ask_of m) here)
+      shape_permitted : (o : Opening) (h : Member) (m : Message) → Among now.members h → Shaped (permitted_parts c s now tables o h m)
+      shape_permitted o h m here =
+          by_case (is_shut h.channel m) (tell h.channel.slot (reply_error h.channel.join_ref m (codes "presence disabled")))
+          (ask_parts c s now tables o h m (ask_of m)) (plain (refl, tt)) (shape_ask o h m (ask_of m) here)
 
-    shape_message : (slot : ℕ) (o : Opening) (m : Option Message) → Shaped (message_parts c s now slot o m)
-    shape_message slot o None = plain (plain_end [] slot end_name.BadFrame)
-    shape_message slot o (Some m) =
-        by_test (is_heartbeat m) (tell slot (reply_ok m.join_ref m no_members))
-        (if is_join m then join_parts c s now slot o m else channel_parts c s now slot o m (channel_on now slot m.topic))
-        (plain (refl, tt))
-        (by_test (is_join m) (join_parts c s now slot o m) (channel_parts c s now slot o m (channel_on now slot m.topic)) (shape_join slot o m)
-        (shape_channel slot o m (channel_on now slot m.topic) (found slot m.topic)))
+      shape_judged : (o : Opening) (h : Member) (m : Message) (why : Option (List ℕ)) → Among now.members h
+          → Shaped (judged_parts c s now tables o h m why)
+      shape_judged o h m None here = shape_permitted o h m here
+      shape_judged o h m (Some why) here = plain (refl, tt)
 
-    shape_frame : (slot : ℕ) (bytes : List ℕ) (o : Option Opening) → Shaped (frame_parts c s now slot bytes o)
-    shape_frame slot bytes None = plain tt
-    shape_frame slot bytes (Some o) = shape_message slot o (message_of o.version bytes)
+      shape_channel : (slot : ℕ) (o : Opening) (m : Message) (h : Option Member) → Maybe (Among now.members) h
+          → Shaped (channel_parts c s now tables slot o m h)
+      shape_channel slot o m None here = plain (refl, tt)
+      shape_channel slot o m (Some h) here = shape_judged o h m (denied_ask h.standing (ask_of m)) here
+
+      shape_message : (slot : ℕ) (o : Opening) (m : Option Message) → Shaped (message_parts c s now tables slot o m)
+      shape_message slot o None = plain (plain_end [] slot end_name.BadFrame)
+      shape_message slot o (Some m) =
+          by_test (is_heartbeat m) (tell slot (reply_ok m.join_ref m no_members))
+          (if is_join m then join_parts c s now tables slot o m else channel_parts c s now tables slot o m (channel_on now slot m.topic))
+          (plain (refl, tt))
+          (by_test (is_join m) (join_parts c s now tables slot o m) (channel_parts c s now tables slot o m (channel_on now slot m.topic)) (shape_join slot o m)
+          (shape_channel slot o m (channel_on now slot m.topic) (found slot m.topic)))
+
+      shape_frame : (slot : ℕ) (bytes : List ℕ) (o : Option Opening) → Shaped (frame_parts c s now tables slot bytes o)
+      shape_frame slot bytes None = plain tt
+      shape_frame slot bytes (Some o) = shape_message slot o (message_of o.version bytes)
+
+    plain_posting : (p : Posting) → AllOf (Plain true now.number) (posting_parts now p)
+    plain_posting p =
+        all_map (Plain true now.number) (broadcast_part (posted_payload p))
+        (filter (λ (h : Member). is_on (channel_topic p) h.channel) now.members) (λ h. refl)
+
+    plain_post : (tables : List (List Row)) (claims : Claims) (ps : List Posting) → AllOf (Plain true now.number) (post_parts c s now tables claims ps)
+    plain_post tables claims ps =
+        let may = filter (may_post c s now tables claims) ps in
+        elim (is_expired (seconds_of now.moment) claims.exp) as
+        (λ t. AllOf (Plain true now.number) (elim t [ true ↦ [] | false ↦ flat_map (posting_parts now) may ]))
+        [ true ↦ tt | false ↦ all_flat (Plain true now.number) (posting_parts now) may plain_posting ]
 
     plain_change : (to : ChannelView) (ch : Change) (subs : List Subscription) → AllOf (Plain false now.number) (change_parts c s to ch subs)
     plain_change to ch [] = tt
@@ -390,8 +413,9 @@ module _ (now : Now) (a : AllOf (Below now.number) now.members) (apart : AreApar
     pub shape_doings : (tables : List (List Row)) (i : Input) → Shape (fine_for i) now.number now.ids now.members (doings c s now tables i)
     unfolding doings poll_parts
     shape_doings tables (Opened slot version claims) = plain (plain_open slot (opening_of now version claims))
-    shape_doings tables (Frame slot bytes) = shape_frame slot bytes (opening_in now slot)
+    shape_doings tables (Frame slot bytes) = shape_frame tables slot bytes (opening_in now slot)
     shape_doings tables (Gone slot) = plain (plain_end_if slot end_name.Gone (opening_in now slot))
+    shape_doings tables (Post slot claims ps) = plain (plain_post tables claims ps)
     shape_doings tables (Poll changes) =
         let subs = subscriptions now.members in
         let views = map view_of now.members in

@@ -8,7 +8,7 @@ use Rattle.rt_value.proofs.Plain.{AllOf}
 use Rattle.rt_phx.specs.declared.end.EndName.TheVariants as end_name
 use Rattle.rt_catalog.specs.declared.catalog.Catalog.{Catalog}
 use Rattle.rt_entry.specs.declared.input.Input.{Input}
-use Rattle.rt_entry.specs.declared.input.Input.TheVariants.{Opened, Frame, Gone, Poll, Tick, Stop}
+use Rattle.rt_entry.specs.declared.input.Input.TheVariants.{Opened, Frame, Gone, Poll, Tick, Stop, Post}
 use Rattle.rt_entry.specs.declared.input.Settings.{Settings}
 use Rattle.rt_entry.specs.declared.story.Opening.{Opening}
 use Rattle.rt_entry.specs.declared.story.Part.{Part}
@@ -20,7 +20,7 @@ use Rattle.rt_laws.specs.Openings.{is_there, StoppedIsShut}
 use Rattle.rt_laws.proofs.Sound.{held_below, members_apart}
 use Rattle.rt_laws.proofs.Journals.{story_shaped}
 use Rattle.rt_laws.proofs.Turning.{Leads, mild_leads, opens_leads, ends_leads, state_follows}
-use Rattle.rt_laws.proofs.Whole.{Remains, mild_poll, open_other}
+use Rattle.rt_laws.proofs.Whole.{Remains, mild_post, mild_poll, open_other}
 use Rattle.rt_laws.proofs.Openings.{Holds, stops_end, opens_at, opens_many, there_heard, open_where}
 
 not_there : (o : Option Opening) → is_there o ≡ false → o ≡ None
@@ -92,9 +92,12 @@ module _ (c : Catalog) (s : Settings) (journal : List Input) where
     unfolding doings poll_parts now_of
     stays_shut (Opened n version claims) tables slot stop lt = opens_shut slot n (opening_of now version claims) stop lt
     stays_shut (Frame n bytes) tables slot stop lt =
-        nothing_said slot (frame_parts c s now n bytes (opening_in now n)) (ap (frame_parts c s now n bytes) (shut_in n))
+        nothing_said slot (frame_parts c s now tables n bytes (opening_in now n)) (ap (frame_parts c s now tables n bytes) (shut_in n))
     stays_shut (Gone n) tables slot stop lt =
         nothing_said slot (end_if_open now n end_name.Gone (opening_in now n)) (ap (end_if_open now n end_name.Gone) (shut_in n))
+    stays_shut (Post n claims ps) tables slot stop lt =
+        let h = story_shaped c s journal in
+        mild_leads slot false _ (mild_post now slot (held_below st h) (members_apart st h) c s false tables claims ps (remains slot lt))
     stays_shut (Poll changes) tables slot stop lt =
         let h = story_shaped c s journal in
         mild_leads slot false _ (mild_poll now slot (held_below st h) (members_apart st h) c s false tables changes (remains slot lt))
@@ -132,6 +135,7 @@ module _ (c : Catalog) (s : Settings) where
   led journal (Opened n version claims) slot shut e lt = led_later journal (Opened n version claims) slot (shut e) e lt
   led journal (Frame n bytes) slot shut e lt = led_later journal (Frame n bytes) slot (shut e) e lt
   led journal (Gone n) slot shut e lt = led_later journal (Gone n) slot (shut e) e lt
+  led journal (Post n claims ps) slot shut e lt = led_later journal (Post n claims ps) slot (shut e) e lt
   led journal (Poll changes) slot shut e lt = led_later journal (Poll changes) slot (shut e) e lt
   led journal (Tick m) slot shut e lt = led_later journal (Tick m) slot (shut e) e lt
 

@@ -121,7 +121,7 @@ told_says slot (Opens s o ∷ ps) h = said_case (s == slot) (a.Opened o.version)
 told_says slot (Ends s name ∷ ps) h = said_case (s == slot) (a.Ended name) (told_by slot ps) [] h.0 (told_says slot ps h.1)
 told_says slot (Tells s m ∷ ps) h = says_case (s == slot) m (told_by slot ps) (told_says slot ps h.1)
 told_says slot (Joins c ∷ ps) h = told_says slot ps h.1
-told_says slot (Renews k r c ∷ ps) h = told_says slot ps h.1
+told_says slot (Renews k x ∷ ps) h = told_says slot ps h.1
 told_says slot (Tracks t ∷ ps) h = told_says slot ps h.1
 told_says slot (Untracks k ∷ ps) h = told_says slot ps h.1
 told_says slot (Departs k ∷ ps) h = told_says slot ps h.1
@@ -160,7 +160,7 @@ fits_after slot (Opens s p ∷ ps) v old f = opens_case (s == slot) slot p ps ol
 fits_after slot (Ends s name ∷ ps) v old f = ends_case (s == slot) slot (a.Ended name) ps old v refl f (λ w x g. fits_after slot ps w x g)
 fits_after slot (Tells s m ∷ ps) v old f = tells_case (s == slot) slot (a.Says m) ps old v refl (fits_after slot ps v old f)
 fits_after slot (Joins c ∷ ps) v old f = fits_after slot ps v old f
-fits_after slot (Renews k r c ∷ ps) v old f = fits_after slot ps v old f
+fits_after slot (Renews k x ∷ ps) v old f = fits_after slot ps v old f
 fits_after slot (Tracks t ∷ ps) v old f = fits_after slot ps v old f
 fits_after slot (Untracks k ∷ ps) v old f = fits_after slot ps v old f
 fits_after slot (Departs k ∷ ps) v old f = fits_after slot ps v old f
@@ -173,6 +173,7 @@ heard_version : (i : Input) (moment slot : ℕ) (o : Opening) → (heard_in i mo
 heard_version (input.Frame n bytes) moment slot o = heard_case (n == slot) moment o
 heard_version (input.Opened n v claims) moment slot o = refl
 heard_version (input.Gone n) moment slot o = refl
+heard_version (input.Post n claims ps) moment slot o = refl
 heard_version (input.Poll changes) moment slot o = refl
 heard_version (input.Tick m) moment slot o = refl
 heard_version input.Stop moment slot o = refl

@@ -12,7 +12,7 @@ use Rattle.rt_entry.specs.declared.story.Member.{Member}
 use Rattle.rt_entry.specs.declared.story.Track.{Track}
 use Rattle.rt_entry.specs.declared.story.Part.{Part}
 use Rattle.rt_entry.specs.declared.story.Part.TheVariants.{Opens, Ends, Tells, Joins, Renews, Tracks, Untracks, Departs}
-use Rattle.rt_entry.specs.Story.{Line, Story, joined, joined_by, departed, departed_by, departed_in, renewed_by, first_or, has, members_at, member_in, claims_at, ids_given, standing_of, tracked_by, all_tracks, is_last, standing_tracks}
+use Rattle.rt_entry.specs.Story.{Line, Story, joined, joined_by, departed, departed_by, departed_in, renewed_by, first_or, has, members_at, member_in, standing_at, ids_given, tracked_by, all_tracks, is_last, standing_tracks}
 use Rattle.rt_laws.specs.After.{joins_of, new_member, with_standing, tracks_in}
 use Rattle.rt_laws.proofs.Shapes.{Plain, Quiet, Below, IsNext, Shape, plain, joining, tracking, MakesRoom, AreApart, IsOfMember, fine_for}
 use Rattle.rt_laws.proofs.Grows.{Tagged, is_held, IsSound, remains_by, joined_grows, members_grow}
@@ -25,7 +25,7 @@ plain_joins b n (Opens s o ∷ ps) h = plain_joins b n ps h.1
 plain_joins b n (Ends s m ∷ ps) h = plain_joins b n ps h.1
 plain_joins b n (Tells s m ∷ ps) h = plain_joins b n ps h.1
 plain_joins b n (Joins c ∷ ps) h = absurd h.0
-plain_joins b n (Renews m r c ∷ ps) h = plain_joins b n ps h.1
+plain_joins b n (Renews m x ∷ ps) h = plain_joins b n ps h.1
 plain_joins b n (Tracks t ∷ ps) h = absurd h.0
 plain_joins b n (Untracks m ∷ ps) h = plain_joins b n ps h.1
 plain_joins b n (Departs m ∷ ps) h = plain_joins b n ps h.1
@@ -36,7 +36,7 @@ plain_has b n m (Opens s o ∷ ps) le h = plain_has b n m ps le h.1
 plain_has b n m (Ends s e ∷ ps) le h = plain_has b n m ps le h.1
 plain_has b n m (Tells s e ∷ ps) le h = plain_has b n m ps le h.1
 plain_has b n m (Joins c ∷ ps) le h = absurd h.0
-plain_has b n m (Renews k r c ∷ ps) le h = plain_has b n m ps le h.1
+plain_has b n m (Renews k x ∷ ps) le h = plain_has b n m ps le h.1
 plain_has b n m (Tracks t ∷ ps) le h = absurd h.0
 plain_has b n m (Untracks k ∷ ps) le h = plain_has b n m ps le h.1
 plain_has b n m (Departs k ∷ ps) le h = let lt = h.0 in let e : eqb k m ≡ false = grind (arith, nat_tests) in rw e (plain_has b n m ps le h.1)
@@ -47,7 +47,7 @@ plain_renews b n m (Opens s o ∷ ps) le h = plain_renews b n m ps le h.1
 plain_renews b n m (Ends s e ∷ ps) le h = plain_renews b n m ps le h.1
 plain_renews b n m (Tells s e ∷ ps) le h = plain_renews b n m ps le h.1
 plain_renews b n m (Joins c ∷ ps) le h = absurd h.0
-plain_renews b n m (Renews k r c ∷ ps) le h =
+plain_renews b n m (Renews k x ∷ ps) le h =
     let lt = h.0 in let e : eqb k m ≡ false = grind (arith, nat_tests) in rw e (plain_renews b n m ps le h.1)
 plain_renews b n m (Tracks t ∷ ps) le h = absurd h.0
 plain_renews b n m (Untracks k ∷ ps) le h = plain_renews b n m ps le h.1
@@ -60,7 +60,7 @@ plain_tracks b n (Opens s o ∷ ps) qs h = plain_tracks b n ps qs h.1
 plain_tracks b n (Ends s e ∷ ps) qs h = plain_tracks b n ps qs h.1
 plain_tracks b n (Tells s e ∷ ps) qs h = plain_tracks b n ps qs h.1
 plain_tracks b n (Joins c ∷ ps) qs h = absurd h.0
-plain_tracks b n (Renews k r c ∷ ps) qs h = plain_tracks b n ps qs h.1
+plain_tracks b n (Renews k x ∷ ps) qs h = plain_tracks b n ps qs h.1
 plain_tracks b n (Tracks t ∷ ps) qs h = absurd h.0
 plain_tracks b n (Untracks k ∷ ps) qs h = plain_tracks b n ps qs h.1
 plain_tracks b n (Departs k ∷ ps) qs h = plain_tracks b n ps qs h.1
@@ -72,7 +72,7 @@ quiet_front b n (Tells s m ∷ ps) h = (h.0, quiet_front b n ps h.1)
 quiet_front b n (Opens s o ∷ ps) h = absurd h.0
 quiet_front b n (Ends s e ∷ ps) h = absurd h.0
 quiet_front b n (Joins c ∷ ps) h = absurd h.0
-quiet_front b n (Renews k r c ∷ ps) h = absurd h.0
+quiet_front b n (Renews k x ∷ ps) h = absurd h.0
 quiet_front b n (Tracks t ∷ ps) h = absurd h.0
 quiet_front b n (Untracks k ∷ ps) h = absurd h.0
 quiet_front b n (Departs k ∷ ps) h = absurd h.0
@@ -83,7 +83,7 @@ quiet_departs b (Tells s m ∷ ps) h = quiet_departs b ps h.1
 quiet_departs b (Opens s o ∷ ps) h = absurd h.0
 quiet_departs b (Ends s e ∷ ps) h = absurd h.0
 quiet_departs b (Joins c ∷ ps) h = absurd h.0
-quiet_departs b (Renews k r c ∷ ps) h = absurd h.0
+quiet_departs b (Renews k x ∷ ps) h = absurd h.0
 quiet_departs b (Tracks t ∷ ps) h = absurd h.0
 quiet_departs b (Untracks k ∷ ps) h = absurd h.0
 quiet_departs b (Departs k ∷ ps) h = absurd h.0
@@ -94,7 +94,7 @@ quiet_tracks b (Tells s m ∷ ps) h = quiet_tracks b ps h.1
 quiet_tracks b (Opens s o ∷ ps) h = absurd h.0
 quiet_tracks b (Ends s e ∷ ps) h = absurd h.0
 quiet_tracks b (Joins c ∷ ps) h = absurd h.0
-quiet_tracks b (Renews k r c ∷ ps) h = absurd h.0
+quiet_tracks b (Renews k x ∷ ps) h = absurd h.0
 quiet_tracks b (Tracks t ∷ ps) h = absurd h.0
 quiet_tracks b (Untracks k ∷ ps) h = absurd h.0
 quiet_tracks b (Departs k ∷ ps) h = absurd h.0
@@ -185,9 +185,9 @@ shaped_claims (l ∷ before) ch le h =
     ∙ shaped_claims before ch (omega arith) h.1
 
 claims_first : (st : Story) (ch : Channel) → flat_map (λ (k : Line). filter_map (renewed_by ch.number) k.parts) st ≡ []
-    → claims_at st ch ≡ standing_of ch
-unfolding claims_at
-claims_first st ch e = ap (first_or (standing_of ch)) e
+    → standing_at st ch ≡ ch.standing
+unfolding standing_at
+claims_first st ch e = ap (first_or ch.standing) e
 
 has_line : (l : Line) (before : Story) (m : ℕ) → length before ≤ m → Shaped (l ∷ before) → has m (departed (l ∷ before)) ≡ false
 unfolding departed
@@ -197,7 +197,7 @@ has_line l before m le h =
     ∙ shaped_has before m le h.1
 
 claims_line : (l : Line) (before : Story) (ch : Channel) → length before ≤ ch.number → Shaped (l ∷ before)
-    → claims_at (l ∷ before) ch ≡ standing_of ch
+    → standing_at (l ∷ before) ch ≡ ch.standing
 claims_line l before ch le h =
     claims_first (l ∷ before) ch
     (ap (λ xs. xs ++ flat_map (λ (k : Line). filter_map (renewed_by ch.number) k.parts) before) (shape_renews (fine_for l.input) (length before) ch.number (members_in before) l.parts le h.0) ∙ shaped_claims before ch le h.1)
@@ -280,7 +280,7 @@ tagged_parts (Opens s o ∷ ps) = tagged_parts ps
 tagged_parts (Ends s e ∷ ps) = tagged_parts ps
 tagged_parts (Tells s e ∷ ps) = tagged_parts ps
 tagged_parts (Joins c ∷ ps) = tagged_parts ps
-tagged_parts (Renews k r c ∷ ps) = tagged_parts ps
+tagged_parts (Renews k x ∷ ps) = tagged_parts ps
 tagged_parts (Tracks t ∷ ps) = (refl, tagged_parts ps)
 tagged_parts (Untracks k ∷ ps) = (tt, tagged_parts ps)
 tagged_parts (Departs k ∷ ps) = tagged_parts ps
@@ -298,7 +298,7 @@ plain_track_below b n m (Opens s o ∷ ps) qs h g = plain_track_below b n m ps q
 plain_track_below b n m (Ends s e ∷ ps) qs h g = plain_track_below b n m ps qs h.1 g
 plain_track_below b n m (Tells s e ∷ ps) qs h g = plain_track_below b n m ps qs h.1 g
 plain_track_below b n m (Joins c ∷ ps) qs h g = absurd h.0
-plain_track_below b n m (Renews k r c ∷ ps) qs h g = plain_track_below b n m ps qs h.1 g
+plain_track_below b n m (Renews k x ∷ ps) qs h g = plain_track_below b n m ps qs h.1 g
 plain_track_below b n m (Tracks t ∷ ps) qs h g = absurd h.0
 plain_track_below b n m (Untracks k ∷ ps) qs h g = (tt, plain_track_below b n m ps qs h.1 g)
 plain_track_below b n m (Departs k ∷ ps) qs h g = plain_track_below b n m ps qs h.1 g

@@ -10,12 +10,17 @@ use Rattle.rt_value.specs.declared.row.Row.{Row}
 use Rattle.rt_value.proofs.Among.{Among}
 use Rattle.rt_value.proofs.Plain.{AllOf, all_append, all_flat, all_map, and_swap, filter_and, filter_same}
 use Rattle.rt_value.proofs.Moves.{Moves}
+use Rattle.rt_value.specs.declared.claims.Claims.{Claims}
+use Rattle.rt_token.specs.Claims.{is_expired}
+use Rattle.rt_token.specs.Asked.{seconds_of}
 use Rattle.rt_phx.specs.declared.message.Message.{Message}
 use Rattle.rt_phx.specs.declared.end.EndName.TheVariants as end_name
 use Rattle.rt_phx.specs.Frame.{message_of, no_members}
 use Rattle.rt_phx.specs.Says.{reply_ok, reply_error}
 use Rattle.rt_phx.specs.Asks.{Ask, leave, renew, track, untrack, unknown_presence, nothing, ask_of, is_heartbeat, is_join, is_channel_topic}
 use Rattle.rt_phx.specs.Asks as ask
+use Rattle.rt_phx.specs.declared.message.Posting.{Posting}
+use Rattle.rt_phx.specs.Posts.{channel_topic, posted_payload}
 use Rattle.rt_filter.specs.declared.subscription.Subscription.{Subscription}
 use Rattle.rt_presence.specs.Trees.{Held, metas_tree}
 use Rattle.rt_presence.specs.Reading.{metas_in}
@@ -24,19 +29,20 @@ use Rattle.rt_catalog.specs.declared.catalog.Catalog.{Catalog}
 use Rattle.rt_change.specs.declared.change.Change.{Change}
 use Rattle.rt_change.specs.Verdicts.{is_truncate}
 use Rattle.rt_entry.specs.declared.input.Input.{Input}
-use Rattle.rt_entry.specs.declared.input.Input.TheVariants.{Opened, Frame, Gone, Poll, Tick, Stop}
+use Rattle.rt_entry.specs.declared.input.Input.TheVariants.{Opened, Frame, Gone, Poll, Tick, Stop, Post}
 use Rattle.rt_entry.specs.declared.input.Settings.{Settings}
 use Rattle.rt_entry.specs.declared.story.Opening.{Opening}
+use Rattle.rt_entry.specs.declared.story.Standing.{Standing}
 use Rattle.rt_entry.specs.declared.story.Channel.{Channel}
 use Rattle.rt_entry.specs.declared.story.Member.{Member}
 use Rattle.rt_entry.specs.declared.story.Track.{Track}
 use Rattle.rt_entry.specs.declared.story.Part.{Part}
 use Rattle.rt_entry.specs.declared.story.Part.TheVariants.{Joins}
 use Rattle.rt_entry.specs.declared.entry.ChannelView.{ChannelView}
-use Rattle.rt_entry.specs.Story.{Now, Standing, has, departed_by, departed_in, tracked_by, joined_by, is_last, standing_tracks}
+use Rattle.rt_entry.specs.Story.{Now, has, departed_by, departed_in, tracked_by, joined_by, is_last, standing_tracks}
 use Rattle.rt_entry.specs.Messages.{presence_state, subscribed_message, joined_response, shown_meta}
 use Rattle.rt_entry.specs.Joining.{Checked, channel_of_join, renewal_of}
-use Rattle.rt_entry.specs.Doings.{tell, in_turn, opening_in, channel_on, track_of, leave_diffs, end_of, end_if_open, close, tell_if, open_parts, has_bindings, present_on, accept_parts, join_result_parts, others, renewal_parts, gets_broadcast, broadcast_part, broadcast_parts, track_by, untrack_part, is_shut, tick_parts, stop_parts, subscriptions, view_of, opening_of, join_over_former, join_parts, ask_parts, channel_parts, message_parts, frame_parts, gets, change_parts, change_parts_to, change_parts_to_all, poll_parts, doings}
+use Rattle.rt_entry.specs.Doings.{tell, in_turn, opening_in, channel_on, track_of, leave_diffs, end_of, end_if_open, close, tell_if, open_parts, has_bindings, present_on, accept_parts, join_result_parts, others, renewal_parts, gets_broadcast, broadcast_part, broadcast_parts, track_by, untrack_part, is_shut, tick_parts, stop_parts, subscriptions, view_of, opening_of, join_over_former, join_parts, ask_parts, channel_parts, message_parts, frame_parts, gets, change_parts, change_parts_to, change_parts_to_all, poll_parts, doings, posting_parts, post_parts, may_post, permitted_parts, judged_parts, denied_ask, is_on}
 use Rattle.rt_entry.specs.Presence.{client_view}
 use Rattle.rt_laws.specs.After.{joins_of, tracks_in, tracks_after}
 use Rattle.rt_laws.proofs.Shapes.{AreApart, Below, IsMade, Plain, join_made, eqb_same, plain_end, plain_end_if, plain_open, plain_ticks, plain_stop}
@@ -221,8 +227,8 @@ module _ (now : Now) where
   still_broadcast : (ch : Channel) (m : Message) → AllOf Still (broadcast_parts now ch m)
   still_broadcast ch m =
       let to = filter (λ (g : Member). gets_broadcast ch g.channel) now.members in
-      all_append Still (tell_if ch.ack ch.slot (reply_ok ch.join_ref m no_members)) (map (broadcast_part m) to)
-      (still_tell_if ch.ack ch.slot (reply_ok ch.join_ref m no_members)) (all_map Still (broadcast_part m) to (λ g. tt))
+      all_append Still (tell_if ch.ack ch.slot (reply_ok ch.join_ref m no_members)) (map (broadcast_part m.payload) to)
+      (still_tell_if ch.ack ch.slot (reply_ok ch.join_ref m no_members)) (all_map Still (broadcast_part m.payload) to (λ g. tt))
 
   still_renewal : (g : Member) (r : Checked Standing) → AllOf Still (renewal_parts now g r)
   still_renewal g (Ok standing) = (tt, tt)
@@ -231,49 +237,67 @@ module _ (now : Now) where
   module _ (below : AllOf (Below now.number) now.members) (apart : AreApart now.members)
       (open_slots : (h : Member) → Among now.members h → IsOpen now h.channel.slot)
       (c : Catalog) (s : Settings) where
-    still_ask : (o : Opening) (g : Member) (m : Message) (k : Ask) → AllOf Still (ask_parts c s now o g m k)
-    still_ask o g m leave = (tt, still_close now [] g)
-    still_ask o g m (renew None) = tt
-    still_ask o g m (renew (Some token)) = still_renewal g (renewal_of c s now o g.channel token)
-    still_ask o g m ask.broadcast = still_broadcast g.channel m
-    still_ask o g m (track tree) =
-        (tt, (tt, still_diffs now [] g.channel.topic (track_by now g.channel tree ∷ []) (option_to_list (track_of now g.channel.number))))
-    still_ask o g m untrack =
-        let t = track_of now g.channel.number in
-        (tt, all_append Still (untrack_part g.channel.number t) (leave_diffs now [] t) (still_untrack g.channel.number t) (still_leave now [] t))
-    still_ask o g m unknown_presence = (tt, tt)
-    still_ask o g m nothing = tt
+    module _ (tables : List (List Row)) where
+      still_ask : (o : Opening) (g : Member) (m : Message) (k : Ask) → AllOf Still (ask_parts c s now tables o g m k)
+      still_ask o g m leave = (tt, still_close now [] g)
+      still_ask o g m (renew None) = tt
+      still_ask o g m (renew (Some token)) = still_renewal g (renewal_of c tables s now o g.channel token)
+      still_ask o g m ask.broadcast = still_broadcast g.channel m
+      still_ask o g m (track tree) =
+          (tt, (tt, still_diffs now [] g.channel.topic (track_by now g.channel tree ∷ []) (option_to_list (track_of now g.channel.number))))
+      still_ask o g m untrack =
+          let t = track_of now g.channel.number in
+          (tt, all_append Still (untrack_part g.channel.number t) (leave_diffs now [] t) (still_untrack g.channel.number t) (still_leave now [] t))
+      still_ask o g m unknown_presence = (tt, tt)
+      still_ask o g m nothing = tt
 
-    keeping_channel : (slot : ℕ) (o : Opening) (m : Message) (g : Option Member) → Keeping (channel_parts c s now slot o m g)
-    keeping_channel slot o m None = keeping_still (tell slot (reply_error m.join_ref m (codes "unmatched topic"))) (tt, tt)
-    keeping_channel slot o m (Some g) =
-        by_case (is_shut g.channel m) (tell slot (reply_error g.channel.join_ref m (codes "presence disabled"))) (ask_parts c s now o g m (ask_of m))
-        (keeping_still (tell slot (reply_error g.channel.join_ref m (codes "presence disabled"))) (tt, tt))
-        (keeping_still (ask_parts c s now o g m (ask_of m)) (still_ask o g m (ask_of m)))
+      keeping_permitted : (o : Opening) (g : Member) (m : Message) → Keeping (permitted_parts c s now tables o g m)
+      keeping_permitted o g m =
+          let shut = tell g.channel.slot (reply_error g.channel.join_ref m (codes "presence disabled")) in
+          by_case (is_shut g.channel m) shut (ask_parts c s now tables o g m (ask_of m)) (keeping_still shut (tt, tt))
+          (keeping_still (ask_parts c s now tables o g m (ask_of m)) (still_ask o g m (ask_of m)))
 
-    keeping_join : (slot : ℕ) (o : Opening) (m : Message) → IsOpen now slot → Keeping (join_parts c s now slot o m)
-    keeping_join slot o m held_open =
-        let former = channel_on now slot m.topic in
-        by_case (is_channel_topic m.topic) (join_over_former c s now slot o m (option_to_list former))
-        (tell slot (reply_error m.join_ref m (codes "unmatched topic")))
-        (keeping_result slot former m (channel_of_join c s now slot o (others now slot m.topic) m)
-        (join_made now below apart c s slot o (others now slot m.topic) m) held_open)
-        (keeping_still (tell slot (reply_error m.join_ref m (codes "unmatched topic"))) (tt, tt))
+      keeping_judged : (o : Opening) (g : Member) (m : Message) (why : Option (List ℕ)) → Keeping (judged_parts c s now tables o g m why)
+      keeping_judged o g m None = keeping_permitted o g m
+      keeping_judged o g m (Some why) = keeping_still (tell g.channel.slot (reply_error g.channel.join_ref m why)) (tt, tt)
 
-    keeping_message : (slot : ℕ) (o : Opening) (m : Option Message) → IsOpen now slot → Keeping (message_parts c s now slot o m)
-    keeping_message slot o None held_open =
-        keeping_without (end_of now [] slot end_name.BadFrame) (keeps_end now [] slot end_name.BadFrame)
-        (plain_joins true now.number (end_of now [] slot end_name.BadFrame) (plain_end now below apart [] slot end_name.BadFrame))
-    keeping_message slot o (Some m) held_open =
-        by_test (is_heartbeat m) (tell slot (reply_ok m.join_ref m no_members))
-        (if is_join m then join_parts c s now slot o m else channel_parts c s now slot o m (channel_on now slot m.topic))
-        (keeping_still (tell slot (reply_ok m.join_ref m no_members)) (tt, tt))
-        (by_test (is_join m) (join_parts c s now slot o m) (channel_parts c s now slot o m (channel_on now slot m.topic))
-        (keeping_join slot o m held_open) (keeping_channel slot o m (channel_on now slot m.topic)))
+      keeping_channel : (slot : ℕ) (o : Opening) (m : Message) (g : Option Member) → Keeping (channel_parts c s now tables slot o m g)
+      keeping_channel slot o m None = keeping_still (tell slot (reply_error m.join_ref m (codes "unmatched topic"))) (tt, tt)
+      keeping_channel slot o m (Some g) = keeping_judged o g m (denied_ask g.standing (ask_of m))
 
-    keeping_frame : (slot : ℕ) (bytes : List ℕ) (o : Option Opening) → opening_in now slot ≡ o → Keeping (frame_parts c s now slot bytes o)
-    keeping_frame slot bytes None e = keeping_still [] tt
-    keeping_frame slot bytes (Some o) e = keeping_message slot o (message_of o.version bytes) (o, e)
+      keeping_join : (slot : ℕ) (o : Opening) (m : Message) → IsOpen now slot → Keeping (join_parts c s now tables slot o m)
+      keeping_join slot o m held_open =
+          let former = channel_on now slot m.topic in
+          by_case (is_channel_topic m.topic) (join_over_former c s now tables slot o m (option_to_list former))
+          (tell slot (reply_error m.join_ref m (codes "unmatched topic")))
+          (keeping_result slot former m (channel_of_join c tables s now slot o (others now slot m.topic) m)
+          (join_made now below apart c s tables slot o (others now slot m.topic) m) held_open)
+          (keeping_still (tell slot (reply_error m.join_ref m (codes "unmatched topic"))) (tt, tt))
+
+      keeping_message : (slot : ℕ) (o : Opening) (m : Option Message) → IsOpen now slot → Keeping (message_parts c s now tables slot o m)
+      keeping_message slot o None held_open =
+          keeping_without (end_of now [] slot end_name.BadFrame) (keeps_end now [] slot end_name.BadFrame)
+          (plain_joins true now.number (end_of now [] slot end_name.BadFrame) (plain_end now below apart [] slot end_name.BadFrame))
+      keeping_message slot o (Some m) held_open =
+          by_test (is_heartbeat m) (tell slot (reply_ok m.join_ref m no_members))
+          (if is_join m then join_parts c s now tables slot o m else channel_parts c s now tables slot o m (channel_on now slot m.topic))
+          (keeping_still (tell slot (reply_ok m.join_ref m no_members)) (tt, tt))
+          (by_test (is_join m) (join_parts c s now tables slot o m) (channel_parts c s now tables slot o m (channel_on now slot m.topic))
+          (keeping_join slot o m held_open) (keeping_channel slot o m (channel_on now slot m.topic)))
+
+      keeping_frame : (slot : ℕ) (bytes : List ℕ) (o : Option Opening) → opening_in now slot ≡ o → Keeping (frame_parts c s now tables slot bytes o)
+      keeping_frame slot bytes None e = keeping_still [] tt
+      keeping_frame slot bytes (Some o) e = keeping_message slot o (message_of o.version bytes) (o, e)
+
+    still_post : (tables : List (List Row)) (claims : Claims) (ps : List Posting) → AllOf Still (post_parts c s now tables claims ps)
+    still_post tables claims ps =
+        let may = filter (may_post c s now tables claims) ps in
+        elim (is_expired (seconds_of now.moment) claims.exp) as
+        (λ t. AllOf Still (elim t [ true ↦ [] | false ↦ flat_map (posting_parts now) may ])) [
+          | true ↦ tt
+          | false ↦ all_flat Still (posting_parts now) may (λ p. all_map Still (broadcast_part (posted_payload p))
+              (filter (λ (h : Member). is_on (channel_topic p) h.channel) now.members) (λ h. tt))
+        ]
 
     still_change : (to : ChannelView) (ch : Change) (subs : List Subscription) → AllOf Still (change_parts c s to ch subs)
     still_change to ch [] = tt
@@ -293,11 +317,12 @@ module _ (now : Now) where
         let o = opening_of now version claims in
         keeping_without (open_parts now slot o) (keeps_open now open_slots slot o)
         (plain_joins true now.number (open_parts now slot o) (plain_open now below apart slot o))
-    keeping tables (Frame slot bytes) = keeping_frame slot bytes (opening_in now slot) refl
+    keeping tables (Frame slot bytes) = keeping_frame tables slot bytes (opening_in now slot) refl
     keeping tables (Gone slot) =
         let ended = end_if_open now slot end_name.Gone (opening_in now slot) in
         keeping_without ended (keeps_end_if now slot end_name.Gone (opening_in now slot))
         (plain_joins true now.number ended (plain_end_if now below apart slot end_name.Gone (opening_in now slot)))
+    keeping tables (Post slot claims ps) = keeping_still (post_parts c s now tables claims ps) (still_post tables claims ps)
     keeping tables (Poll changes) =
         let subs = subscriptions now.members in
         let views = map view_of now.members in

@@ -5,7 +5,7 @@ use Rattle.std.specs.List.{filter}
 use Rattle.std.proofs.lemmas.List.Sums.{sum_by-append}
 use Rattle.rt_catalog.specs.declared.catalog.Catalog.{Catalog}
 use Rattle.rt_entry.specs.declared.input.Input.{Input}
-use Rattle.rt_entry.specs.declared.input.Input.TheVariants.{Opened, Frame, Gone, Poll, Tick, Stop}
+use Rattle.rt_entry.specs.declared.input.Input.TheVariants.{Opened, Frame, Gone, Poll, Tick, Stop, Post}
 use Rattle.rt_entry.specs.declared.input.Settings.{Settings}
 use Rattle.rt_entry.specs.Story.{now_of, tables_left, is_stop}
 use Rattle.rt_entry.specs.Doings.{story}
@@ -34,6 +34,7 @@ module _ (c : Catalog) (s : Settings) where
   one_input lane journal (Opened n version claims) = no_stop lane _
   one_input lane journal (Frame n bytes) = no_stop lane _
   one_input lane journal (Gone n) = no_stop lane _
+  one_input lane journal (Post n claims ps) = no_stop lane _
   one_input lane journal (Poll changes) = refl
   one_input lane journal (Tick m) = no_stop lane _
   one_input lane journal Stop =

@@ -4,16 +4,17 @@ use Rattle.std.specs.Prelude.{⊤, ◌^◌, ◌==◌, Contains, nat_le, if◌the
 use Rattle.std.specs.List.{filter, filter_map, flat_map, AllByRecursion}
 use Rattle.rt_phx.specs.declared.message.Message.{Message}
 use Rattle.rt_catalog.specs.declared.catalog.Catalog.{Catalog}
-use Rattle.rt_catalog.specs.Names.{HasReadableNames}
+use Rattle.rt_private.specs.Names.{HasReadableTexts}
 use Rattle.rt_entry.specs.declared.input.Input.{Input}
 use Rattle.rt_entry.specs.declared.input.Settings.{Settings}
 use Rattle.rt_entry.specs.declared.story.Channel.{Channel}
+use Rattle.rt_entry.specs.declared.story.Member.{Member}
 use Rattle.rt_entry.specs.declared.story.Track.{Track}
 use Rattle.rt_entry.specs.declared.story.Part.{Part}
 use Rattle.rt_entry.specs.declared.story.Part.TheVariants.{Opens, Ends, Tells, Joins, Renews, Tracks, Untracks, Departs}
 use Rattle.rt_entry.specs.declared.answer.Answer.{Answer}
 use Rattle.rt_entry.specs.declared.answer.Answer.TheVariants as a
-use Rattle.rt_entry.specs.Story.{Now, now_of, joined_by, is_last, standing_tracks, all_tracks, members_at, joined, present_at, ids_given, tables_left}
+use Rattle.rt_entry.specs.Story.{Now, now_of, joined_by, is_last, standing_tracks, all_tracks, members_at, joined, present_at, ids_given, tables_left, renewed_by, first_or}
 use Rattle.rt_entry.specs.Doings.{story}
 use Rattle.rt_entry.specs.Answers.{answer_of, at_slot, told, answers_by, answers}
 use Rattle.rt_entry.specs.Presence.{said_by, said_since}
@@ -22,12 +23,13 @@ use Rattle.rt_entry.specs.Readable.{payload_levels, IsReadable}
 use Rattle.rt_value.proofs.Among.{from_contains}
 use Rattle.rt_laws.proofs.Clients.{story_length}
 use Rattle.rt_value.proofs.Plain.{AllOf, all_among, all_append, all_map_of, all_filter, Maybe}
+use Rattle.rt_entry.specs.declared.story.Standing.{Standing}
 use Rattle.rt_laws.proofs.Journals.{line_of, shape_next, story_shaped, story_grows}
 use Rattle.rt_laws.proofs.Sound.{joins_well}
-use Rattle.rt_laws.proofs.Outgoing.{ChannelFits, TrackFits}
+use Rattle.rt_laws.proofs.Outgoing.{StandingFits, ChannelFits, TrackFits}
 use Rattle.rt_laws.proofs.Shaping.{all_filter_map}
 use Rattle.rt_laws.proofs.Accepting.{NowFits}
-use Rattle.rt_laws.proofs.Doing.{PartFits, InputFits, HeldFits, doings_fit}
+use Rattle.rt_laws.proofs.Doing.{PartFits, InputFits, HeldFits, CanBeDenied, doings_fit}
 
 -- one input later
 
@@ -36,7 +38,7 @@ joined_fits (Joins ch) h = h
 joined_fits (Opens s o) h = tt
 joined_fits (Ends s name) h = tt
 joined_fits (Tells s m) h = tt
-joined_fits (Renews k r claims) h = tt
+joined_fits (Renews k x) h = tt
 joined_fits (Tracks t) h = tt
 joined_fits (Untracks k) h = tt
 joined_fits (Departs k) h = tt
@@ -53,7 +55,7 @@ entries_fit (Opens s o ∷ ps) a = entries_fit ps a.1
 entries_fit (Ends s name ∷ ps) a = entries_fit ps a.1
 entries_fit (Tells s m ∷ ps) a = entries_fit ps a.1
 entries_fit (Joins ch ∷ ps) a = entries_fit ps a.1
-entries_fit (Renews k r claims ∷ ps) a = entries_fit ps a.1
+entries_fit (Renews k x ∷ ps) a = entries_fit ps a.1
 entries_fit (Tracks t ∷ ps) a = (a.0, entries_fit ps a.1)
 entries_fit (Untracks k ∷ ps) a = (tt, entries_fit ps a.1)
 entries_fit (Departs k ∷ ps) a = entries_fit ps a.1
@@ -72,6 +74,29 @@ few_more (j ∷ []) one a = let few = a.0.few in omega (arith, length-append j.b
 few_more (j ∷ k ∷ more) (inl one) a = absurd (omega arith)
 few_more (j ∷ k ∷ more) (inr one) a = absurd (omega arith)
 
+renewal_fits : (n : ℕ) (p : Part) → PartFits p → Maybe StandingFits (renewed_by n p)
+renewal_fits n (Renews k x) h = by (k == n)
+  where
+    by : (b : Bool) → Maybe StandingFits (if b then Some x else None)
+    by true = h
+    by false = tt
+renewal_fits n (Opens s o) h = tt
+renewal_fits n (Ends s name) h = tt
+renewal_fits n (Tells s m) h = tt
+renewal_fits n (Joins ch) h = tt
+renewal_fits n (Tracks t) h = tt
+renewal_fits n (Untracks k) h = tt
+renewal_fits n (Departs k) h = tt
+
+first_fits : (x : Standing) (xs : List Standing) → StandingFits x → AllOf StandingFits xs → StandingFits (first_or x xs)
+first_fits x [] f a = f
+first_fits x (y ∷ ys) f a = a.0
+
+renewed_fits : (ps : List Part) (h : Member) → AllOf PartFits ps → CanBeDenied h → CanBeDenied (renewed ps h)
+renewed_fits ps h a f =
+    let n = h.channel.number in
+    first_fits h.standing (filter_map (renewed_by n) ps) f (all_filter_map PartFits StandingFits (renewed_by n) ps (renewal_fits n) a)
+
 after_fits : (now : Now) (i : Input) (ps : List Part) → NowFits now → AllOf PartFits ps → ((length (joins_of ps) ≡ 0) ⊎ (length (joins_of ps) ≡ 1))
     → now.number + 1 < 2 ^ 64
     → NowFits (after now i ps)
@@ -86,13 +111,17 @@ after_fits now i ps f a one short =
           (all_map_of HeldFits HeldFits (renewed ps) (filter (remains ps) now.members) (λ h k. k)
           (all_filter HeldFits (remains ps) now.members f.members))
           (all_map_of HeldFits ChannelFits new_member (joins_of ps) (λ ch k. k) (joins_fit ps a));
+      standings = all_append CanBeDenied (map (renewed ps) (filter (remains ps) now.members)) (map new_member (joins_of ps))
+          (all_map_of CanBeDenied CanBeDenied (renewed ps) (filter (remains ps) now.members) (λ h k. renewed_fits ps h a k)
+          (all_filter CanBeDenied (remains ps) now.members f.standings))
+          (all_map_of CanBeDenied ChannelFits new_member (joins_of ps) (λ ch k. k.standing) (joins_fit ps a));
       tracks = all_append TrackFits (filter (outlasts ps) now.tracks) (standing_tracks (tracks_in ps))
           (all_filter TrackFits (outlasts ps) now.tracks f.tracks) (standing_fit (tracks_in ps) (entries_fit ps a));
     }
 
 none_fits : NowFits (now_of [])
 unfolding now_of members_at joined present_at all_tracks ids_given
-none_fits = record { number = omega arith; ids = omega arith; members = tt; tracks = tt }
+none_fits = record { number = omega arith; ids = omega arith; members = tt; standings = tt; tracks = tt }
 
 -- what is said
 
@@ -109,7 +138,7 @@ part_says (Tells n m) h = h
 part_says (Opens n o) h = tt
 part_says (Ends n name) h = tt
 part_says (Joins ch) h = tt
-part_says (Renews k r claims) h = tt
+part_says (Renews k x) h = tt
 part_says (Tracks t) h = tt
 part_says (Untracks k) h = tt
 part_says (Departs k) h = tt
@@ -126,7 +155,7 @@ said_is (a.Says m) h = h
 said_is (a.Opened version) h = tt
 said_is (a.Ended name) h = tt
 
-module _ (c : Catalog) (s : Settings) (names : HasReadableNames c) where
+module _ (c : Catalog) (s : Settings) (names : HasReadableTexts c) where
   done_fit : (journal : List Input) (i : Input) → NowFits (now_of (story c s journal)) → InputFits i → AllOf PartFits (done_by c s journal i)
   done_fit journal i f h = doings_fit (now_of (story c s journal)) f c s names (tables_left c (story c s journal) i) i h
 

@@ -48,7 +48,7 @@ Mild slot b (Opens s o) = (s == slot) ≡ false
 Mild slot b (Ends s name) = (s == slot) ≡ false
 Mild slot b (Tells s m) = (s == slot) ≡ true → b ≡ true
 Mild slot b (Joins ch) = ⊤
-Mild slot b (Renews m role claims) = ⊤
+Mild slot b (Renews m x) = ⊤
 Mild slot b (Tracks t) = ⊤
 Mild slot b (Untracks m) = ⊤
 Mild slot b (Departs m) = ⊤
@@ -70,7 +70,7 @@ mild_leads slot b (Opens s o ∷ ps) h = passed (s == slot) b b (a.Opened o.vers
 mild_leads slot b (Ends s name ∷ ps) h = passed (s == slot) b b (a.Ended name) (told_by slot ps) h.0 (mild_leads slot b ps h.1)
 mild_leads slot b (Tells s m ∷ ps) h = said (s == slot) b m (told_by slot ps) h.0 (mild_leads slot b ps h.1)
 mild_leads slot b (Joins c ∷ ps) h = mild_leads slot b ps h.1
-mild_leads slot b (Renews k r c ∷ ps) h = mild_leads slot b ps h.1
+mild_leads slot b (Renews k x ∷ ps) h = mild_leads slot b ps h.1
 mild_leads slot b (Tracks t ∷ ps) h = mild_leads slot b ps h.1
 mild_leads slot b (Untracks k ∷ ps) h = mild_leads slot b ps h.1
 mild_leads slot b (Departs k ∷ ps) h = mild_leads slot b ps h.1
@@ -126,7 +126,7 @@ state_follows slot d (Opens s o ∷ ps) b old e h = open_here (s == slot) b d sl
 state_follows slot d (Ends s name ∷ ps) b old e h = end_here (s == slot) b d slot name ps old (state_follows slot d ps) e h
 state_follows slot d (Tells s m ∷ ps) b old e h = tell_here (s == slot) b d slot m ps old (state_follows slot d ps) e h
 state_follows slot d (Joins c ∷ ps) b old e h = state_follows slot d ps b old e h
-state_follows slot d (Renews k r c ∷ ps) b old e h = state_follows slot d ps b old e h
+state_follows slot d (Renews k x ∷ ps) b old e h = state_follows slot d ps b old e h
 state_follows slot d (Tracks t ∷ ps) b old e h = state_follows slot d ps b old e h
 state_follows slot d (Untracks k ∷ ps) b old e h = state_follows slot d ps b old e h
 state_follows slot d (Departs k ∷ ps) b old e h = state_follows slot d ps b old e h

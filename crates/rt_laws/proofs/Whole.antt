@@ -5,7 +5,10 @@ use Rattle.std.specs.List.{filter, flat_map}
 use Rattle.std.proofs.lemmas.Bool.Decides.{eqb_tells}
 use Rattle.rt_value.specs.declared.row.Row.{Row}
 use Rattle.rt_value.proofs.Among.{Among, among_filter}
-use Rattle.rt_value.proofs.Plain.{AllOf, Maybe, all_append, all_map_of, all_weaker, all_themselves, any_append, find_of}
+use Rattle.rt_value.proofs.Plain.{AllOf, Maybe, all_append, all_map_of, all_weaker, all_themselves, any_append, find_of, all_flat}
+use Rattle.rt_value.specs.declared.claims.Claims.{Claims}
+use Rattle.rt_token.specs.Claims.{is_expired}
+use Rattle.rt_token.specs.Asked.{seconds_of}
 use Rattle.rt_phx.specs.declared.message.Message.{Message}
 use Rattle.rt_phx.specs.declared.end.EndName.{EndName}
 use Rattle.rt_phx.specs.declared.end.EndName.TheVariants as end_name
@@ -13,33 +16,31 @@ use Rattle.rt_phx.specs.Frame.{message_of, no_members}
 use Rattle.rt_phx.specs.Says.{reply_ok, reply_error}
 use Rattle.rt_phx.specs.Asks.{Ask, leave, renew, track, untrack, unknown_presence, nothing, ask_of, is_heartbeat, is_join, is_channel_topic}
 use Rattle.rt_phx.specs.Asks as ask
+use Rattle.rt_phx.specs.declared.message.Posting.{Posting}
+use Rattle.rt_phx.specs.Posts.{channel_topic, posted_payload}
 use Rattle.rt_filter.specs.declared.subscription.Subscription.{Subscription}
 use Rattle.rt_catalog.specs.declared.catalog.Catalog.{Catalog}
 use Rattle.rt_change.specs.declared.change.Change.{Change}
 use Rattle.rt_change.specs.Verdicts.{is_truncate}
 use Rattle.rt_entry.specs.declared.input.Settings.{Settings}
 use Rattle.rt_entry.specs.declared.story.Opening.{Opening}
+use Rattle.rt_entry.specs.declared.story.Standing.{Standing}
 use Rattle.rt_entry.specs.declared.story.Channel.{Channel}
 use Rattle.rt_entry.specs.declared.story.Member.{Member}
 use Rattle.rt_entry.specs.declared.story.Track.{Track}
 use Rattle.rt_entry.specs.declared.story.Part.{Part}
 use Rattle.rt_entry.specs.declared.story.Part.TheVariants.{Opens, Ends}
 use Rattle.rt_entry.specs.declared.entry.ChannelView.{ChannelView}
-use Rattle.rt_entry.specs.Story.{Now, Standing, has, departed_in}
+use Rattle.rt_entry.specs.Story.{Now, has, departed_in}
 use Rattle.rt_entry.specs.Messages.{subscribed_message, presence_state}
 use Rattle.rt_entry.specs.Joining.{Checked, channel_of_join, renewal_of}
-use Rattle.rt_entry.specs.Doings.{tell, in_turn, opening_in, is_of_slot, is_on, channels_of, channel_on, track_of, watches, diff_to, diffs, leave_diffs, depart, end_of, end_if_open, close, fail, tell_if, open_parts, has_bindings, present_on, join_result_parts, others, renewal_parts, gets_broadcast, broadcast_part, broadcast_parts, track_by, untrack_part, is_shut, subscriptions, view_of, join_over_former, join_parts, ask_parts, channel_parts, message_parts, frame_parts, gets, change_parts, change_parts_to, change_parts_to_all}
+use Rattle.rt_entry.specs.Doings.{tell, in_turn, opening_in, is_of_slot, is_on, channels_of, channel_on, track_of, watches, diff_to, diffs, leave_diffs, depart, end_of, end_if_open, close, fail, tell_if, open_parts, has_bindings, present_on, join_result_parts, others, renewal_parts, gets_broadcast, broadcast_part, broadcast_parts, track_by, untrack_part, is_shut, subscriptions, view_of, join_over_former, join_parts, ask_parts, channel_parts, message_parts, frame_parts, gets, change_parts, change_parts_to, change_parts_to_all, posting_parts, post_parts, may_post, permitted_parts, judged_parts, denied_ask}
 use Rattle.rt_laws.specs.Openings.{is_there}
-use Rattle.rt_laws.proofs.Shapes.{AreApart, Below, IsMade, option_all, join_made, same_number}
+use Rattle.rt_laws.proofs.Shapes.{all_flat_of, AreApart, Below, IsMade, option_all, join_made, same_number}
 use Rattle.rt_laws.proofs.Turns.{or_second}
 use Rattle.rt_laws.proofs.Due.{and_parts}
 use Rattle.rt_laws.proofs.Turning.{Leads, Mild, leads_then, mild_leads, opens_leads, ends_leads}
 use Rattle.rt_laws.proofs.Untouched.{false_of}
-
-all_flat_of : {A C : Type 0} (B : A → Type 0) (D : C → Type 0) (f : C → List A) (xs : List C) → ((x : C) → D x → AllOf B (f x)) → AllOf D xs
-    → AllOf B (flat_map f xs)
-all_flat_of B D f [] h a = tt
-all_flat_of B D f (x ∷ xs) h a = all_append B (f x) (flat_map f xs) (h x a.0) (all_flat_of B D f xs h a.1)
 
 kept_each : {A : Type 0} (p : A → Bool) (xs : List A) → AllOf (λ x. Among xs x × (p x ≡ true)) (filter p xs)
 kept_each p xs =
@@ -196,9 +197,9 @@ module _ (now : Now) (slot : ℕ) where
   mild_broadcast : (b : Bool) (ch : Channel) (m : Message) → MaySay b ch.slot → Remains b [] → AllOf (Mild slot b) (broadcast_parts now ch m)
   mild_broadcast b ch m own r =
       let gets_it : Member → Bool = λ h. gets_broadcast ch h.channel in
-      all_append (Mild slot b) (tell_if ch.ack ch.slot (reply_ok ch.join_ref m no_members)) (map (broadcast_part m) (filter gets_it now.members))
+      all_append (Mild slot b) (tell_if ch.ack ch.slot (reply_ok ch.join_ref m no_members)) (map (broadcast_part m.payload) (filter gets_it now.members))
       (mild_tell_if b ch.ack ch.slot (reply_ok ch.join_ref m no_members) own)
-      (all_map_of (Mild slot b) (λ h. Among now.members h × (gets_it h ≡ true)) (broadcast_part m) (filter gets_it now.members)
+      (all_map_of (Mild slot b) (λ h. Among now.members h × (gets_it h ≡ true)) (broadcast_part m.payload) (filter gets_it now.members)
       (λ h x e. r h x.0 (same_number h.channel.slot slot e) refl) (kept_each gets_it now.members))
 
   mild_result : (b : Bool) (n : ℕ) (gone : List ℕ) (m : Message) (k : Checked Channel) → IsMade now n m.topic k → MaySay b n
@@ -217,66 +218,91 @@ module _ (now : Now) (slot : ℕ) where
       )
 
   module _ (below : AllOf (Below now.number) now.members) (apart : AreApart now.members) (c : Catalog) (s : Settings) where
-    mild_over : (b : Bool) (n : ℕ) (o : Opening) (m : Message) → MaySay b n → Remains b []
-        → AllOf (Mild slot b) (join_over_former c s now n o m (option_to_list (channel_on now n m.topic)))
-    mild_over b n o m own r =
-        let former = option_to_list (channel_on now n m.topic) in
-        let owned : AllOf (λ (h : Member). h.channel.slot ≡ n) former = option_all (λ (h : Member). h.channel.slot ≡ n) (channel_on now n m.topic) (own_found n m.topic) in
-        let made = channel_of_join c s now n o (others now n m.topic) m in
-        all_append (Mild slot b) (in_turn (close now) [] former) (join_result_parts now n (map (λ (h : Member). h.channel.number) former) m made)
-        (mild_turn b (close now) (λ (h : Member). h.channel.slot ≡ n) (λ gone g e q. mild_close b gone g (may_say b n g.channel.slot e own) q) [] former owned r)
-        (mild_result b n (map (λ (h : Member). h.channel.number) former) m made (join_made now below apart c s n o (others now n m.topic) m) own)
+    module _ (tables : List (List Row)) where
+      mild_over : (b : Bool) (n : ℕ) (o : Opening) (m : Message) → MaySay b n → Remains b []
+          → AllOf (Mild slot b) (join_over_former c s now tables n o m (option_to_list (channel_on now n m.topic)))
+      mild_over b n o m own r =
+          let former = option_to_list (channel_on now n m.topic) in
+          let owned : AllOf (λ (h : Member). h.channel.slot ≡ n) former = option_all (λ (h : Member). h.channel.slot ≡ n) (channel_on now n m.topic) (own_found n m.topic) in
+          let made = channel_of_join c tables s now n o (others now n m.topic) m in
+          all_append (Mild slot b) (in_turn (close now) [] former) (join_result_parts now n (map (λ (h : Member). h.channel.number) former) m made)
+          (mild_turn b (close now) (λ (h : Member). h.channel.slot ≡ n) (λ gone g e q. mild_close b gone g (may_say b n g.channel.slot e own) q) [] former owned r)
+          (mild_result b n (map (λ (h : Member). h.channel.number) former) m made (join_made now below apart c s tables n o (others now n m.topic) m) own)
 
-    mild_join : (b : Bool) (n : ℕ) (o : Opening) (m : Message) → MaySay b n → Remains b [] → AllOf (Mild slot b) (join_parts c s now n o m)
-    mild_join b n o m own r =
-        elim (is_channel_topic m.topic) as (λ t. AllOf (Mild slot b) (elim t [
-          | true ↦ join_over_former c s now n o m (option_to_list (channel_on now n m.topic))
-          | false ↦ tell n (reply_error m.join_ref m (codes "unmatched topic"))
-        ])) [ true ↦ mild_over b n o m own r | false ↦ (own, tt) ]
+      mild_join : (b : Bool) (n : ℕ) (o : Opening) (m : Message) → MaySay b n → Remains b [] → AllOf (Mild slot b) (join_parts c s now tables n o m)
+      mild_join b n o m own r =
+          elim (is_channel_topic m.topic) as (λ t. AllOf (Mild slot b) (elim t [
+            | true ↦ join_over_former c s now tables n o m (option_to_list (channel_on now n m.topic))
+            | false ↦ tell n (reply_error m.join_ref m (codes "unmatched topic"))
+          ])) [ true ↦ mild_over b n o m own r | false ↦ (own, tt) ]
 
-    mild_ask : (b : Bool) (o : Opening) (h : Member) (m : Message) (k : Ask) → MaySay b h.channel.slot → Remains b []
-        → AllOf (Mild slot b) (ask_parts c s now o h m k)
-    mild_ask b o h m leave own r = (own, mild_close b [] h own r)
-    mild_ask b o h m (renew None) own r = tt
-    mild_ask b o h m (renew (Some token)) own r = mild_renewal b h (renewal_of c s now o h.channel token) own r
-    mild_ask b o h m ask.broadcast own r = mild_broadcast b h.channel m own r
-    mild_ask b o h m (track tree) own r =
-        let t = track_by now h.channel tree in
-        (own, (tt, mild_diffs b [] h.channel.topic (t ∷ []) (option_to_list (track_of now h.channel.number)) r))
-    mild_ask b o h m untrack own r =
-        let t = track_of now h.channel.number in
-        (own, all_append (Mild slot b) (untrack_part h.channel.number t) (leave_diffs now [] t) (mild_untrack b h.channel.number t) (mild_leave b [] t r))
-    mild_ask b o h m unknown_presence own r = (own, tt)
-    mild_ask b o h m nothing own r = tt
+      mild_ask : (b : Bool) (o : Opening) (h : Member) (m : Message) (k : Ask) → MaySay b h.channel.slot → Remains b []
+          → AllOf (Mild slot b) (ask_parts c s now tables o h m k)
+      mild_ask b o h m leave own r = (own, mild_close b [] h own r)
+      mild_ask b o h m (renew None) own r = tt
+      mild_ask b o h m (renew (Some token)) own r = mild_renewal b h (renewal_of c tables s now o h.channel token) own r
+      mild_ask b o h m ask.broadcast own r = mild_broadcast b h.channel m own r
+      mild_ask b o h m (track tree) own r =
+          let t = track_by now h.channel tree in
+          (own, (tt, mild_diffs b [] h.channel.topic (t ∷ []) (option_to_list (track_of now h.channel.number)) r))
+      mild_ask b o h m untrack own r =
+          let t = track_of now h.channel.number in
+          (own, all_append (Mild slot b) (untrack_part h.channel.number t) (leave_diffs now [] t) (mild_untrack b h.channel.number t) (mild_leave b [] t r))
+      mild_ask b o h m unknown_presence own r = (own, tt)
+      mild_ask b o h m nothing own r = tt
 
-    mild_channel : (b : Bool) (n : ℕ) (o : Opening) (m : Message) (k : Option Member) → Maybe (λ (h : Member). h.channel.slot ≡ n) k → MaySay b n
-        → Remains b [] → AllOf (Mild slot b) (channel_parts c s now n o m k)
-    mild_channel b n o m None e own r = (own, tt)
-    mild_channel b n o m (Some h) e own r =
-        let here = may_say b n h.channel.slot e own in
-        elim (is_shut h.channel m) as (λ t. AllOf (Mild slot b) (elim t [
-          | true ↦ tell n (reply_error h.channel.join_ref m (codes "presence disabled"))
-          | false ↦ ask_parts c s now o h m (ask_of m)
-        ])) [ true ↦ (own, tt) | false ↦ mild_ask b o h m (ask_of m) here r ]
+      mild_permitted : (b : Bool) (o : Opening) (h : Member) (m : Message) → MaySay b h.channel.slot → Remains b []
+          → AllOf (Mild slot b) (permitted_parts c s now tables o h m)
+      mild_permitted b o h m own r =
+          elim (is_shut h.channel m) as (λ t. AllOf (Mild slot b) (elim t [
+            | true ↦ tell h.channel.slot (reply_error h.channel.join_ref m (codes "presence disabled"))
+            | false ↦ ask_parts c s now tables o h m (ask_of m)
+          ])) [ true ↦ (own, tt) | false ↦ mild_ask b o h m (ask_of m) own r ]
 
-    mild_message : (b : Bool) (n : ℕ) (o : Opening) (m : Message) → MaySay b n → Remains b [] → AllOf (Mild slot b) (message_parts c s now n o (Some m))
-    mild_message b n o m own r =
-        let rest : List Part = if is_join m then join_parts c s now n o m else channel_parts c s now n o m (channel_on now n m.topic) in
-        let others_mild : AllOf (Mild slot b) rest = elim (is_join m) as
-        (λ t. AllOf (Mild slot b) (if t then join_parts c s now n o m else channel_parts c s now n o m (channel_on now n m.topic)))
-        [ true ↦ mild_join b n o m own r | false ↦ mild_channel b n o m (channel_on now n m.topic) (own_found n m.topic) own r ] in
-        elim (is_heartbeat m) as (λ t. AllOf (Mild slot b) (if t then tell n (reply_ok m.join_ref m no_members) else rest)) [
-          | true ↦ (own, tt)
-          | false ↦ others_mild
-        ]
+      mild_judged : (b : Bool) (o : Opening) (h : Member) (m : Message) (why : Option (List ℕ)) → MaySay b h.channel.slot → Remains b []
+          → AllOf (Mild slot b) (judged_parts c s now tables o h m why)
+      mild_judged b o h m None own r = mild_permitted b o h m own r
+      mild_judged b o h m (Some why) own r = (own, tt)
 
-    message_goes : (b : Bool) (n : ℕ) (o : Opening) (m : Option Message) → MaySay b n → Remains b [] → Goes b (message_parts c s now n o m)
-    message_goes b n o None own r = end_goes b n end_name.BadFrame own r
-    message_goes b n o (Some m) own r = goes_mild b (message_parts c s now n o (Some m)) (mild_message b n o m own r)
+      mild_channel : (b : Bool) (n : ℕ) (o : Opening) (m : Message) (k : Option Member) → Maybe (λ (h : Member). h.channel.slot ≡ n) k → MaySay b n
+          → Remains b [] → AllOf (Mild slot b) (channel_parts c s now tables n o m k)
+      mild_channel b n o m None e own r = (own, tt)
+      mild_channel b n o m (Some h) e own r = mild_judged b o h m (denied_ask h.standing (ask_of m)) (may_say b n h.channel.slot e own) r
 
-    pub frame_goes : (b : Bool) (n : ℕ) (bytes : List ℕ) (o : Option Opening) → Knows b n o → Remains b [] → Goes b (frame_parts c s now n bytes o)
-    frame_goes b n bytes None own r = goes_mild b [] tt
-    frame_goes b n bytes (Some o) own r = message_goes b n o (message_of o.version bytes) (λ e. sym (own e)) r
+      mild_message : (b : Bool) (n : ℕ) (o : Opening) (m : Message) → MaySay b n → Remains b [] → AllOf (Mild slot b) (message_parts c s now tables n o (Some m))
+      mild_message b n o m own r =
+          let rest : List Part = if is_join m then join_parts c s now tables n o m else channel_parts c s now tables n o m (channel_on now n m.topic) in
+          let others_mild : AllOf (Mild slot b) rest = elim (is_join m) as
+          (λ t. AllOf (Mild slot b) (if t then join_parts c s now tables n o m else channel_parts c s now tables n o m (channel_on now n m.topic)))
+          [ true ↦ mild_join b n o m own r | false ↦ mild_channel b n o m (channel_on now n m.topic) (own_found n m.topic) own r ] in
+          elim (is_heartbeat m) as (λ t. AllOf (Mild slot b) (if t then tell n (reply_ok m.join_ref m no_members) else rest)) [
+            | true ↦ (own, tt)
+            | false ↦ others_mild
+          ]
+
+      message_goes : (b : Bool) (n : ℕ) (o : Opening) (m : Option Message) → MaySay b n → Remains b [] → Goes b (message_parts c s now tables n o m)
+      message_goes b n o None own r = end_goes b n end_name.BadFrame own r
+      message_goes b n o (Some m) own r = goes_mild b (message_parts c s now tables n o (Some m)) (mild_message b n o m own r)
+
+      pub frame_goes : (b : Bool) (n : ℕ) (bytes : List ℕ) (o : Option Opening) → Knows b n o → Remains b [] → Goes b (frame_parts c s now tables n bytes o)
+      frame_goes b n bytes None own r = goes_mild b [] tt
+      frame_goes b n bytes (Some o) own r = message_goes b n o (message_of o.version bytes) (λ e. sym (own e)) r
+
+    -- posts
+
+    mild_posting : (b : Bool) (p : Posting) → Remains b [] → AllOf (Mild slot b) (posting_parts now p)
+    mild_posting b p r =
+        let gets_it : Member → Bool = λ h. is_on (channel_topic p) h.channel in
+        all_map_of (Mild slot b) (λ h. Among now.members h × (gets_it h ≡ true)) (broadcast_part (posted_payload p)) (filter gets_it now.members)
+        (λ h x e. r h x.0 (same_number h.channel.slot slot e) refl) (kept_each gets_it now.members)
+
+    pub mild_post : (b : Bool) (tables : List (List Row)) (claims : Claims) (ps : List Posting) → Remains b []
+        → AllOf (Mild slot b) (post_parts c s now tables claims ps)
+    mild_post b tables claims ps r =
+        let may = filter (may_post c s now tables claims) ps in
+        elim (is_expired (seconds_of now.moment) claims.exp) as
+        (λ t. AllOf (Mild slot b) (elim t [ true ↦ [] | false ↦ flat_map (posting_parts now) may ]))
+        [ true ↦ tt | false ↦ all_flat (Mild slot b) (posting_parts now) may (λ p. mild_posting b p r) ]
 
     -- polls
 

@@ -5,11 +5,12 @@ use Rattle.rt_catalog.specs.declared.catalog.Catalog.{Catalog}
 use Rattle.rt_entry.specs.declared.input.Input.{Input}
 use Rattle.rt_entry.specs.declared.input.Settings.{Settings}
 use Rattle.rt_entry.specs.declared.story.Opening.{Opening}
+use Rattle.rt_entry.specs.declared.story.Standing.{Standing}
 use Rattle.rt_entry.specs.declared.story.Channel.{Channel}
 use Rattle.rt_entry.specs.declared.story.Member.{Member}
 use Rattle.rt_entry.specs.declared.story.Track.{Track}
 use Rattle.rt_entry.specs.declared.story.Part.{Part}
-use Rattle.rt_entry.specs.Story.{Now, Standing, now_of, moment_after, is_stop, heard_in, opened_after, joined_by, departed_in, has, renewed_by, first_or, standing_of, tracked_by, is_last, standing_tracks, edits_at, tables_of, tables_left}
+use Rattle.rt_entry.specs.Story.{Now, now_of, moment_after, is_stop, heard_in, opened_after, joined_by, departed_in, has, renewed_by, first_or, tracked_by, is_last, standing_tracks, edits_at, tables_of, tables_left}
 use Rattle.rt_entry.specs.Doings.{doings, story}
 
 -- what is open on a slot after parts, where `o` was open before them
@@ -23,18 +24,15 @@ joins_of parts = filter_map joined_by parts
 abbrev pub remains : List Part → Member → Bool
 remains parts h = not (has h.channel.number (departed_in parts))
 
-abbrev pub standing_in : Member → Standing
-standing_in h = record { role = h.role; claims = h.claims }
-
 abbrev pub with_standing : Channel → Standing → Member
-with_standing ch standing = record { channel = ch; role = standing.role; claims = standing.claims }
+with_standing ch standing = record { channel = ch; standing = standing }
 
--- with the role and the claims of the parts' renewal of it, where there is one
+-- with what the parts' renewal of it gives, where there is one
 abbrev pub renewed : List Part → Member → Member
-renewed parts h = with_standing h.channel (first_or (standing_in h) (filter_map (renewed_by h.channel.number) parts))
+renewed parts h = with_standing h.channel (first_or h.standing (filter_map (renewed_by h.channel.number) parts))
 
 abbrev pub new_member : Channel → Member
-new_member ch = with_standing ch (standing_of ch)
+new_member ch = with_standing ch ch.standing
 
 -- the members without those that departed, with their new claims, then who joined
 abbrev pub members_after : List Member → List Part → List Member

@@ -43,7 +43,7 @@ module _ (c : Catalog) (s : Settings) (before : List Input) (changes : List Chan
     pub known : Contains (members_of_journal c s before) member
     pub among : Contains (told_ids ch (view_of member)) id
     pub said : Contains (change_answers ch)
-        (member.channel.slot, Says (change_message (view_of member) (told_ids ch (view_of member)) (shape_of c member.role s.max_record ch)))
+        (member.channel.slot, Says (change_message (view_of member) (told_ids ch (view_of member)) (shape_of c member.standing.role s.max_record ch)))
 
   -- the change at the place of the line, which is told to the line's subscription exactly where its verdict is no denial
   pub record IsDecided (j : Judged) : Type 0 where

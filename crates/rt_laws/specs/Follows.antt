@@ -2,7 +2,7 @@
 use Rattle.std.specs.Prelude.{◌≡◌, ◌<◌, ◌^◌, true, false, ⊤, List, [], ◌∷◌, map, length, Contains, IsPermutation}
 use Rattle.rt_catalog.specs.declared.catalog.Catalog.{Catalog}
 use Rattle.rt_entry.specs.declared.input.Input.{Input}
-use Rattle.rt_entry.specs.declared.input.Input.TheVariants.{Opened, Frame, Gone, Poll, Tick, Stop}
+use Rattle.rt_entry.specs.declared.input.Input.TheVariants.{Opened, Frame, Gone, Post, Poll, Tick, Stop}
 use Rattle.rt_entry.specs.declared.input.Settings.{Settings}
 use Rattle.rt_entry.specs.declared.story.Member.{Member}
 use Rattle.rt_entry.specs.Story.{has, departed_in}
@@ -17,6 +17,7 @@ abbrev pub IsOutside : Input → Type 0
 IsOutside (Opened slot version claims) = ⊤
 IsOutside (Frame slot bytes) = ⊥
 IsOutside (Gone slot) = ⊤
+IsOutside (Post slot claims ps) = ⊤
 IsOutside (Poll changes) = ⊤
 IsOutside (Tick moment) = ⊤
 IsOutside Stop = ⊥

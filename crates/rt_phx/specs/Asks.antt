@@ -1,5 +1,5 @@
 -- What a client's message asks for, by its topic, event and payload (the Realtime protocol, "Channels").
-use Rattle.std.specs.Prelude.{ℕ, nat_lt, nat_eq, Bool, ◌&&◌, List, [], ◌∷◌, codes, length, Option, Some, None, unwrap_or}
+use Rattle.std.specs.Prelude.{ℕ, nat_lt, nat_eq, Bool, ◌&&◌, List, [], ◌∷◌, codes, length, drop, Option, Some, None, unwrap_or}
 use Rattle.std.specs.List.{starts_with}
 use Rattle.std.specs.Str.{bytes_eq, str_to_ascii_lowercase}
 use Rattle.rt_value.specs.Choice.{◌>>=◌, first_case}
@@ -32,6 +32,10 @@ is_join m = event_is m (codes "phx_join")
 
 abbrev pub topic_prefix : List ℕ
 topic_prefix = codes "realtime:"
+
+-- a topic without `realtime:`
+abbrev pub name_in : List ℕ → List ℕ
+name_in topic = drop (length topic_prefix) topic
 
 -- `realtime:` and at least one more byte
 abbrev pub is_channel_topic : List ℕ → Bool

@@ -5,6 +5,7 @@ use Rattle.rt_json.specs.Fits.{FitsWithin}
 use Rattle.rt_json.specs.Text.{IsNumber}
 use Rattle.rt_phx.specs.declared.message.Version.{Version}
 use Rattle.rt_phx.specs.declared.message.Message.{Message}
+use Rattle.rt_phx.specs.declared.message.Posting.{Posting}
 use Rattle.rt_phx.specs.Frame.{frame_limit, spelled}
 
 -- null, a text or a number
@@ -13,6 +14,12 @@ IsRef Null = Unit {0}
 IsRef (Text t) = IsUtf8 t
 IsRef (Num digits) = IsNumber digits
 IsRef _ = ⊥
+
+-- A message of a body of JSON: the body nests in 64 levels, so the message's payload in 61.
+pub record IsPosted (p : Posting) : Type 0 where
+  pub topic : IsUtf8 p.topic
+  pub event : IsUtf8 p.event
+  pub payload : FitsWithin 61 p.payload
 
 -- The frame is itself one of the 64 levels that lists and objects nest in.
 pub record FitsFrame (version : Version) (message : Message) : Type 0 where

@@ -3,7 +3,7 @@ use Rattle.std.specs.Prelude.{ℕ, Bool, true, false, List, [], ◌∷◌, codes
 use Rattle.rt_value.specs.Choice.{◌>>=◌, some_if}
 use Rattle.rt_json.specs.declared.tree.Json.{Json, Null, Bool as Truth, Text}
 use Rattle.rt_json.specs.Lookup.{member_of}
-use Rattle.rt_json.specs.Trees.{is_object, list_of}
+use Rattle.rt_json.specs.Trees.{is_object, list_of, text_of}
 use Rattle.rt_phx.specs.Frame.{no_members}
 
 -- an object, or nothing where it is null or absent
@@ -31,12 +31,33 @@ word (Some Null) = Some None
 word (Some (Text t)) = Some (Some t)
 word (Some tree) = None
 
+abbrev pub each_text : List Json → Option (List (List ℕ))
+each_text [] = Some []
+each_text (tree ∷ more) = text_of tree >>= λ t. option_map (λ ts. t ∷ ts) (each_text more)
+
+-- filters as they are asked for: a text, a list of texts, or nothing where they are null or absent
+pub record Filters : Type 0 where
+  pub listed : Bool
+  pub texts : List (List ℕ)
+
+abbrev pub unlisted : List (List ℕ) → Filters
+unlisted texts = record { listed = false; texts = texts }
+
+abbrev pub listed : List (List ℕ) → Filters
+listed texts = record { listed = true; texts = texts }
+
+abbrev pub filters_in : Option Json → Option Filters
+filters_in None = Some (unlisted [])
+filters_in (Some Null) = Some (unlisted [])
+filters_in (Some (Text t)) = Some (unlisted (t ∷ []))
+filters_in (Some tree) = list_of tree >>= λ trees. option_map listed (each_text trees)
+
 -- a binding as it is asked for: an absent event is the empty text, an absent schema `public`
 pub record Asked : Type 0 where
   pub event : List ℕ
   pub schema : List ℕ
   pub table : Option (List ℕ)
-  pub filter : Option (List ℕ)
+  pub filters : Filters
 
 abbrev pub asked_in : Json → Option Asked
 asked_in tree =
@@ -44,8 +65,8 @@ asked_in tree =
     word (member_of tree (codes "event")) >>= λ event.
     word (member_of tree (codes "schema")) >>= λ schema.
     word (member_of tree (codes "table")) >>= λ table.
-    word (member_of tree (codes "filter")) >>= λ filter.
-    Some (record { event = unwrap_or event []; schema = unwrap_or schema (codes "public"); table = table; filter = filter })
+    filters_in (member_of tree (codes "filter")) >>= λ filters.
+    Some (record { event = unwrap_or event []; schema = unwrap_or schema (codes "public"); table = table; filters = filters })
 
 abbrev pub each_asked : List Json → Option (List Asked)
 each_asked [] = Some []

@@ -4,4 +4,5 @@ pub mod Fits
 pub mod Frame
 pub mod Joins
 pub mod Parts
+pub mod Posts
 pub mod Says

@@ -17,4 +17,4 @@ pub use decoding::{decode, one_message};
 pub use encoding::{encode, encoded_again};
 pub use end::EndName;
 pub use fault::PhxFault;
-pub use message::{Message, Version};
+pub use message::{Message, Posting, Version};

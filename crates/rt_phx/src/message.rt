@@ -8,6 +8,17 @@ pub enum Version {
     V2,
 }
 
+/// A message of a post over HTTP: to the channels of the topic `realtime:` and this one.
+#[derive(Drop)]
+pub struct Posting {
+    /// The topic without `realtime:`.
+    pub topic: Text,
+    /// The event that the channels are told, which may be empty.
+    pub event: Text,
+    /// Any tree.
+    pub payload: Json,
+}
+
 /// A message of a client or of the server. A ref is null, a text or a number.
 #[derive(Drop)]
 pub struct Message {

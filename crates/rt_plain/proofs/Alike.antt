@@ -4,7 +4,7 @@ use Rattle.std.specs.Prelude.{nat_lt}
 use Rattle.std.specs.List.{flat_map, sum_by}
 use Rattle.rt_catalog.specs.declared.catalog.Catalog.{Catalog}
 use Rattle.rt_entry.specs.declared.input.Input.{Input}
-use Rattle.rt_entry.specs.declared.input.Input.TheVariants.{Opened, Frame, Gone, Poll, Tick, Stop}
+use Rattle.rt_entry.specs.declared.input.Input.TheVariants.{Opened, Frame, Gone, Post, Poll, Tick, Stop}
 use Rattle.rt_entry.specs.declared.input.Settings.{Settings}
 use Rattle.rt_entry.specs.declared.input.Step.{Step}
 use Rattle.rt_entry.specs.declared.input.Step.TheVariants.{Arrive, Feed}
@@ -31,6 +31,7 @@ module _ (c : Catalog) (s t : Settings) (secret : s.secret ≡ t.secret) (size :
   same_rows js (Opened slot version claims) = refl
   same_rows js (Frame slot bytes) = refl
   same_rows js (Gone slot) = refl
+  same_rows js (Post slot claims ps) = refl
   same_rows js (Tick m) = refl
   same_rows js Stop = refl
 

@@ -4,11 +4,11 @@ use Rattle.std.specs.List.{filter_map}
 use Rattle.rt_value.specs.declared.row.Row.{Row}
 use Rattle.rt_catalog.specs.declared.catalog.Catalog.{Catalog}
 use Rattle.rt_entry.specs.declared.input.Input.{Input}
-use Rattle.rt_entry.specs.declared.input.Input.TheVariants.{Opened, Frame, Gone, Poll, Tick, Stop}
+use Rattle.rt_entry.specs.declared.input.Input.TheVariants.{Opened, Frame, Gone, Post, Poll, Tick, Stop}
 use Rattle.rt_entry.specs.declared.input.Settings.{Settings}
 use Rattle.rt_entry.specs.declared.story.Part.{Part}
 use Rattle.rt_entry.specs.Story.{Line, Story, Now, now_of, tables_left}
-use Rattle.rt_entry.specs.Joining.{channel_of_join, renewal_of}
+use Rattle.rt_entry.specs.Joining.{standing_for, channel_of_join, renewal_of}
 use Rattle.rt_entry.specs.Doings.{doings, poll_parts, story}
 use Rattle.rt_entry.specs.Answers.{answer_of, answers_by, answers, all_answers, items_for, due}
 
@@ -17,10 +17,11 @@ abbrev bare : List ℕ → ℕ → Settings
 bare secret size = record { workers = 0; capacity = 0; lane = 0; inlet = 0; rows = 0; inputs = 0; max_record = size; secret = secret }
 
 doings_bare : (c : Catalog) (s : Settings) (now : Now) (tables : List (List Row)) (i : Input) → doings c s now tables i ≡ doings c (bare s.secret s.max_record) now tables i
-unfolding doings poll_parts channel_of_join renewal_of
+unfolding doings poll_parts channel_of_join renewal_of standing_for
 doings_bare c s now tables (Opened slot version claims) = refl
 doings_bare c s now tables (Frame slot bytes) = refl
 doings_bare c s now tables (Gone slot) = refl
+doings_bare c s now tables (Post slot claims ps) = refl
 doings_bare c s now tables (Poll changes) = refl
 doings_bare c s now tables (Tick m) = refl
 doings_bare c s now tables Stop = refl

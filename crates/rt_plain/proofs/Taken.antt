@@ -6,7 +6,7 @@ use Rattle.std.proofs.lemmas.Bool.Decides.{nat_tests}
 use Rattle.std.proofs.lemmas.List.{reverse-append}
 use Rattle.rt_catalog.specs.declared.catalog.Catalog.{Catalog}
 use Rattle.rt_entry.specs.declared.input.Input.{Input}
-use Rattle.rt_entry.specs.declared.input.Input.TheVariants.{Opened, Frame, Gone, Poll, Tick, Stop}
+use Rattle.rt_entry.specs.declared.input.Input.TheVariants.{Opened, Frame, Gone, Post, Poll, Tick, Stop}
 use Rattle.rt_entry.specs.declared.input.Settings.{Settings}
 use Rattle.rt_entry.specs.declared.input.Step.{Step}
 use Rattle.rt_entry.specs.declared.input.Step.TheVariants.{Arrive, Feed, Take, TakeFeed, TakeClock, Send, Work, Push, Pop}
@@ -137,6 +137,7 @@ module _ (c : Catalog) (s : Settings) (wide : 0 < s.inlet) where
   arrive_two w (Opened n version claims) js k h = slot_two w n (Opened n version claims) js h
   arrive_two w (Frame n bytes) js k h = slot_two w n (Frame n bytes) js h
   arrive_two w (Gone n) js k h = slot_two w n (Gone n) js h
+  arrive_two w (Post n claims ps) js k h = slot_two w n (Post n claims ps) js h
   arrive_two w (Poll changes) js k h = absurd k
   arrive_two w (Tick m) js k h = absurd k
   arrive_two w Stop js k h = absurd k
@@ -149,6 +150,7 @@ module _ (c : Catalog) (s : Settings) (wide : 0 < s.inlet) where
   fed_two w (Opened n version claims) js k h = absurd k
   fed_two w (Frame n bytes) js k h = absurd k
   fed_two w (Gone n) js k h = absurd k
+  fed_two w (Post n claims ps) js k h = absurd k
 
 -- the inputs of lines begin with that of the first
 pub first_input : (l : Line) (ls : List Line) (i : Input) → Brings l.step i → inputs_of (l ∷ ls) ≡ i ∷ inputs_of ls

@@ -1,6 +1,6 @@
 -- What bindings mean for a role, or the first reason against them.
 use Rattle.std.specs.Prelude.{ℕ, ◌==◌, ◌+◌, nat_lt, Bool, true, false, not, List, [], ◌∷◌, map, length, codes, Option, Some, None, option_map, unwrap_or, Result, Ok, Err}
-use Rattle.std.specs.List.{list_any, enumerate_from}
+use Rattle.std.specs.List.{list_any, filter, enumerate_from}
 use Rattle.std.specs.Str.{bytes_eq}
 use Rattle.rt_value.specs.declared.claims.Claims.{Claims}
 use Rattle.rt_value.specs.Choice.{◌>>=◌, some_if, first_case}
@@ -70,23 +70,41 @@ why_of fault.BadValue = why.Value
 why_of fault.BadFilter = why.Filter
 why_of fault.NoMemory = why.Filter
 
-abbrev pub test_or_why : Result Test FilterFault → Result (Option Test) BindingWhy
-test_or_why (Ok t) = Ok (Some t)
+abbrev pub test_or_why : Result Test FilterFault → Result Test BindingWhy
+test_or_why (Ok t) = Ok t
 test_or_why (Err e) = Err (why_of e)
 
-abbrev pub test_for : Catalog → ℕ → Option ℕ → Option (List ℕ) → Result (Option Test) BindingWhy
-test_for c role table None = Ok None
-test_for c role None (Some text) = Err why.FilterNoTable
-test_for c role (Some table) (Some text) = or_err why.Filter (filter_of text) >> λ f. test_or_why (test_of f (shown_to c role table))
+-- what a filter tests on a table's columns, or the first reason against it
+abbrev pub test_for : List Shown → List ℕ → Result Test BindingWhy
+test_for columns text = or_err why.Filter (filter_of text) >> λ f. test_or_why (test_of f columns)
 
--- What a binding means for a role, or the first reason against it. An absent table and `*` are every table of the schema, an absent filter and
--- the empty text none.
+-- each filter in turn
+abbrev pub each_test : List Shown → List (List ℕ) → Result (List Test) BindingWhy
+each_test columns [] = Ok []
+each_test columns (text ∷ more) = test_for columns text >> λ t. each_test columns more >> λ ts. Ok (t ∷ ts)
+
+-- the most filters of a binding
+abbrev pub filter_limit : ℕ
+filter_limit = 8
+
+-- without a table there is no filter
+abbrev pub tests_for : Catalog → ℕ → Option ℕ → List (List ℕ) → Result (List Test) BindingWhy
+tests_for c role table [] = Ok []
+tests_for c role None (text ∷ more) = Err why.FilterNoTable
+tests_for c role (Some table) (text ∷ more) =
+    demand (not (nat_lt filter_limit (length (text ∷ more)))) why.TooManyFilters >> λ _. each_test (shown_to c role table) (text ∷ more)
+
+-- the filters of a binding: a single text that is empty is none, in a list it is one
+abbrev pub filters_of : Binding → List (List ℕ)
+filters_of b = elim b.listed [ true ↦ b.filters | false ↦ filter (λ text. not (bytes_eq text [])) b.filters ]
+
+-- What a binding means for a role, or the first reason against it. An absent table and `*` are every table of the schema.
 abbrev pub meaning_of_binding : Catalog → ℕ → Binding → Result Subscribed BindingWhy
 meaning_of_binding c role b =
     or_err why.Event (wanted_of b.wanted) >> λ wanted.
     table_for c b.schema (unless_text (codes "*") b.table) >> λ table.
-    test_for c role table (unless_text [] b.filter) >> λ test.
-    Ok (record { binding = b; wanted = wanted; table = table; test = test })
+    tests_for c role table (filters_of b) >> λ tests.
+    Ok (record { binding = b; wanted = wanted; table = table; tests = tests })
 
 abbrev pub at_count : {A : Type 0} → ℕ → Result A BindingWhy → Result A RegistryFault
 at_count n (Ok x) = Ok x
@@ -124,7 +142,7 @@ subscription_of channel slot role claims b =
       wanted = b.1.wanted;
       schema = b.1.binding.schema;
       table = b.1.table;
-      test = b.1.test;
+      tests = b.1.tests;
       role = role;
       claims = claims;
     }
@@ -137,6 +155,7 @@ abbrev pub why_text : BindingWhy → List ℕ
 why_text why.Event = codes "event"
 why_text why.Table = codes "unknown table"
 why_text why.FilterNoTable = codes "filter without table"
+why_text why.TooManyFilters = codes "too many filters"
 why_text why.Filter = codes "bad filter"
 why_text why.Column = codes "column"
 why_text why.Opaque = codes "opaque column"

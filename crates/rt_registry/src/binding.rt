@@ -1,5 +1,5 @@
 use rt_filter::{Test, Wanted};
-use rt_value::Text;
+use rt_value::{List, Text};
 
 /// A binding as a client asks for it.
 #[derive(Debug, Drop)]
@@ -10,8 +10,10 @@ pub struct Binding {
     pub schema: Text,
     /// The table's name; none for every table of the schema.
     pub table: Option<Text>,
-    /// The filter as it is written.
-    pub filter: Option<Text>,
+    /// The filters, as the client gave them: a list, or one text, or nothing.
+    pub filters: List<Text>,
+    /// Whether the client gave a list.
+    pub listed: bool,
 }
 
 /// A binding with what it means on the catalogue. No table means every table of the schema.
@@ -23,6 +25,6 @@ pub struct Subscribed {
     pub wanted: Wanted,
     /// The table's number in the catalogue.
     pub table: Option<u32>,
-    /// The test that a change has to pass.
-    pub test: Option<Test>,
+    /// What the filters test. All of them have to pass.
+    pub tests: List<Test>,
 }

@@ -12,6 +12,9 @@ pub enum BindingWhy {
     /// There is a filter and no table.
     #[error("filter without table")]
     FilterNoTable,
+    /// There are more than 8 filters.
+    #[error("too many filters")]
+    TooManyFilters,
     /// The text is no filter.
     #[error("bad filter")]
     Filter,

@@ -18,6 +18,8 @@ pub data Command : Type 0 where
   open_ : ℕ → Version → List ℕ → Command
   frame : ℕ → List ℕ → Command
   gone : ℕ → Command
+  -- a slot, and the bytes of claims and messages
+  post : ℕ → List ℕ → Command
   wal : List ℕ → Command
   poll : Command
   tick : ℕ → Command
@@ -51,6 +53,7 @@ spelling (token name claims) = codes "token " ++ name ++ 32 ∷ claims
 spelling (open_ slot version claims) = with_number (codes "open") slot ++ 32 ∷ version_text version ++ 32 ∷ claims
 spelling (frame slot text) = with_number (codes "frame") slot ++ 32 ∷ text
 spelling (gone slot) = with_number (codes "gone") slot
+spelling (post slot text) = with_number (codes "post") slot ++ 32 ∷ text
 spelling (wal record_) = codes "wal " ++ record_
 spelling poll = codes "poll"
 spelling (tick moment) = with_number (codes "tick") moment
@@ -85,6 +88,7 @@ IsInRange s (token name claims) = is_name name ≡ true
 IsInRange s (open_ slot version claims) = slot ≤ 255
 IsInRange s (frame slot text) = slot ≤ 255
 IsInRange s (gone slot) = slot ≤ 255
+IsInRange s (post slot text) = slot ≤ 255
 IsInRange s (tick moment) = moment < 2 ^ 64
 IsInRange s (take_ slot) = slot ≤ 255
 IsInRange s (push slot) = slot ≤ 255

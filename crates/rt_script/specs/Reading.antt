@@ -5,6 +5,8 @@ use Rattle.std.specs.List.{list_any, starts_with}
 use Rattle.std.specs.Str.{bytes_eq}
 use Rattle.rt_value.specs.declared.claims.Claims.{Claims}
 use Rattle.rt_value.specs.Choice.{◌>>=◌, some_if}
+use Rattle.rt_json.specs.declared.tree.Json.{Json}
+use Rattle.rt_json.specs.Lookup.{member_of}
 use Rattle.rt_json.specs.Machine.{tree_of}
 use Rattle.rt_wal.specs.declared.records.Record.{Record}
 use Rattle.rt_wal.specs.declared.faults.RecordWhy.{RecordWhy}
@@ -12,6 +14,7 @@ use Rattle.rt_wal.specs.Records.{IsRecord, IsRefusedText, content_of}
 use Rattle.rt_token.specs.declared.fault.TokenFault.{TokenFault}
 use Rattle.rt_token.specs.Claims.{claims_in_tree}
 use Rattle.rt_token.specs.Tokens.{signed_token}
+use Rattle.rt_phx.specs.Posts.{postings_of}
 use Rattle.rt_catalog.specs.declared.catalog.Catalog.{Catalog}
 use Rattle.rt_change.specs.declared.change.Change.{Change}
 use Rattle.rt_change.specs.declared.change.Bound.{Bound}
@@ -19,7 +22,8 @@ use Rattle.rt_change.specs.declared.change.Bound.TheVariants as bound
 use Rattle.rt_change.specs.declared.fault.ChangeFault.{ChangeFault}
 use Rattle.rt_change.specs.declared.fault.ChangeFault.TheVariants as fault
 use Rattle.rt_change.specs.Binding.{change_of}
-use Rattle.rt_entry.specs.declared.input.Input.TheVariants.{Opened, Frame, Gone, Poll, Tick, Stop}
+use Rattle.rt_entry.specs.declared.input.Input.{Input}
+use Rattle.rt_entry.specs.declared.input.Input.TheVariants.{Opened, Frame, Gone, Post, Poll, Tick, Stop}
 use Rattle.rt_entry.specs.declared.input.Settings.{Settings}
 use Rattle.rt_entry.specs.declared.input.Step.{Step}
 use Rattle.rt_entry.specs.declared.input.Step.TheVariants.{Arrive, Feed, Take, TakeFeed, TakeClock, Send, Work, Push, Pop}
@@ -137,6 +141,19 @@ claims_of_tree (Err e) = None
 abbrev pub claims_in : List ℕ → Option Claims
 claims_in bytes = tree_of bytes >>= λ tree. claims_of_tree (claims_in_tree tree)
 
+-- the claims of a tree
+abbrev pub post_claims : Json → Option Claims
+post_claims tree = claims_of_tree (claims_in_tree tree)
+
+-- a post: an object with claims, which may be refused, and with messages
+abbrev pub post_in : ℕ → List ℕ → Result Input LineWhy
+post_in slot text =
+    or_why why.Form (tree_of text) >> λ tree.
+    or_why why.Form (member_of tree (codes "claims")) >> λ claims.
+    or_why why.Form (postings_of tree) >> λ messages.
+    or_why why.Claims (post_claims claims) >> λ found.
+    Ok (Post slot found messages)
+
 abbrev pub with_setting : State → Command → Settings → State
 with_setting st k settings = record st { settings = settings; given = first_word (spelling k) ∷ st.given }
 
@@ -185,6 +202,7 @@ state_after st number (command.token name claims) = token_state st name claims
 state_after st number (command.open_ slot version claims) = or_why why.Claims (claims_in claims) >> λ found. Ok (with_step number (Arrive (Opened slot version found)) st)
 state_after st number (command.frame slot text) = or_why why.Token (filled st text) >> λ bytes. Ok (with_step number (Arrive (Frame slot bytes)) st)
 state_after st number (command.gone slot) = Ok (with_step number (Arrive (Gone slot)) st)
+state_after st number (command.post slot text) = post_in slot text >> λ i. Ok (with_step number (Arrive i) st)
 state_after st number (command.wal record_) = Ok (begun_with st)
 state_after st number command.poll = Ok (with_poll number st)
 state_after st number (command.tick moment) = or_why why.Clock (some_if (nat_le st.clock moment) moment) >> λ _. Ok (with_tick number moment st)

@@ -5,7 +5,7 @@ use Rattle.std.specs.List.{flat_map, list_any, range_with_len}
 use Rattle.rt_phx.specs.Says.{end_text}
 use Rattle.rt_catalog.specs.declared.catalog.Catalog.{Catalog}
 use Rattle.rt_entry.specs.declared.input.Input.{Input}
-use Rattle.rt_entry.specs.declared.input.Input.TheVariants.{Opened, Frame, Gone, Tick}
+use Rattle.rt_entry.specs.declared.input.Input.TheVariants.{Opened, Frame, Gone, Post, Tick}
 use Rattle.rt_entry.specs.declared.input.Settings.{Settings}
 use Rattle.rt_entry.specs.declared.input.Step.{Step}
 use Rattle.rt_entry.specs.declared.input.Step.TheVariants.{Arrive, Feed, Take, TakeFeed, TakeClock, Send, Work, Push, Pop}
@@ -24,6 +24,7 @@ abbrev pub take_of : Input → Step
 take_of (Opened slot version claims) = Take slot
 take_of (Frame slot bytes) = Take slot
 take_of (Gone slot) = Take slot
+take_of (Post slot claims ps) = Take slot
 take_of (Tick moment) = TakeClock
 take_of _ = TakeFeed
 
