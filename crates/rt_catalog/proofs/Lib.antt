@@ -3,3 +3,4 @@ pub mod Named
 pub mod Phrases
 pub mod Readable
 pub mod Shown
+pub mod Unrefused

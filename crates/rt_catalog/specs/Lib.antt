@@ -2,6 +2,7 @@ pub mod Access
 pub mod Catalogue
 pub mod Grammar
 pub mod Lists
+pub mod Memberships
 pub mod Names
 pub mod Refusals
 pub mod Rings

@@ -80,6 +80,11 @@ pub enum Statement {
         tables: List<TableName>,
         roles: List<Text>,
     },
+    /// GRANT of roles to roles: the roles behind TO become members of those before it.
+    Member {
+        groups: List<Text>,
+        roles: List<Text>,
+    },
     /// ALTER TABLE .. ENABLE ROW LEVEL SECURITY
     Secure {
         table: TableName,
