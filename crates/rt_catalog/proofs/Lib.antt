@@ -1,6 +1,10 @@
+pub mod Applied
 pub mod Clauses
+pub mod Closed
 pub mod Named
+pub mod Paths
 pub mod Phrases
 pub mod Readable
 pub mod Shown
+pub mod Under
 pub mod Unrefused

@@ -1,5 +1,6 @@
 pub mod Access
 pub mod Catalogue
+pub mod Closing
 pub mod Grammar
 pub mod Lists
 pub mod Memberships
