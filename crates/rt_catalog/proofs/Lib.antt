@@ -1,7 +1,9 @@
 pub mod Applied
 pub mod Clauses
 pub mod Closed
+pub mod Found
 pub mod Named
+pub mod Once
 pub mod Paths
 pub mod Phrases
 pub mod Readable

@@ -118,15 +118,14 @@ inherits_after before (l ∷ more) = inherits_after before more
 abbrev pub role_of : List ℕ → List Login → ListedRole
 role_of name logins = record { role = record { name = name; bypass = bypass_after false logins }; inherits = inherits_after true logins }
 
--- An equal row is kept once: with rows behind those that stand, each that isn't there yet.
-abbrev pub with_new : {A : Type 0} → (A → A → Bool) → List A → List A → List A
-with_new same before [] = before
-with_new same before (x ∷ more) = with_new same (elim (list_any (same x) before) [ true ↦ before | false ↦ before ++ x ∷ [] ]) more
+-- Of rows each once, the first of those that are the same, behind those before.
+abbrev pub each_once : {A : Type 0} → (A → A → Bool) → List A → List A → List A
+each_once same before [] = before
+each_once same before (x ∷ more) = each_once same (elim (list_any (same x) before) [ true ↦ before | false ↦ before ++ x ∷ [] ]) more
 
--- how many rows there are with those of a statement: one that stands already isn't counted again, and those of the same names count once,
--- also where a name is unknown
-abbrev pub count_with : {A N : Type 0} → List A → (N → Bool) → (N → N → Bool) → List N → ℕ
-count_with before stands same rows = length before + length (with_new same [] (filter (λ r. not (stands r)) rows))
+-- the rows of a statement that don't stand yet, each once; by their names, known or not
+abbrev pub new_rows : {A : Type 0} → (A → Bool) → (A → A → Bool) → List A → List A
+new_rows stands same rows = each_once same [] (filter (λ r. not (stands r)) rows)
 
 -- GRANT: a row by its names, the table or a column of it, and a role or PUBLIC
 pub record GrantRow : Type 0 where
@@ -175,14 +174,18 @@ is_number m n = m == n
 abbrev pub same_grant : Grant → Grant → Bool
 same_grant a b = a.table == b.table && same_option is_number a.column b.column && same_option is_number a.role b.role
 
-abbrev pub grants_with : Lists → List GrantRow → List Grant
-grants_with l rows = with_new same_grant l.grants (filter_map (grant_of l) rows)
-
 abbrev pub is_granted : Lists → GrantRow → Bool
 is_granted l r = is_at (λ g. list_any (same_grant g) l.grants) (grant_of l r)
 
+abbrev pub new_grants : Lists → List GrantRow → List GrantRow
+new_grants l rows = new_rows (is_granted l) same_row rows
+
+-- an equal row is kept once
+abbrev pub grants_with : Lists → List GrantRow → List Grant
+grants_with l rows = l.grants ++ filter_map (grant_of l) (new_grants l rows)
+
 abbrev pub grant_count : Lists → List GrantRow → ℕ
-grant_count l rows = count_with l.grants (is_granted l) same_row rows
+grant_count l rows = length l.grants + length (new_grants l rows)
 
 -- GRANT of roles: a row by its names, a role and its group
 pub record MemberRow : Type 0 where
@@ -204,14 +207,17 @@ membership_of l r =
 abbrev pub same_membership : Membership → Membership → Bool
 same_membership a b = a.role == b.role && a.group == b.group
 
-abbrev pub memberships_with : Lists → List MemberRow → List Membership
-memberships_with l rows = with_new same_membership l.memberships (filter_map (membership_of l) rows)
+abbrev pub is_member : Lists → MemberRow → Bool
+is_member l r = is_at (λ m. list_any (same_membership m) l.memberships) (membership_of l r)
 
-abbrev pub is_member_row : Lists → MemberRow → Bool
-is_member_row l r = is_at (λ m. list_any (same_membership m) l.memberships) (membership_of l r)
+abbrev pub new_members : Lists → List MemberRow → List MemberRow
+new_members l rows = new_rows (is_member l) same_member rows
+
+abbrev pub memberships_with : Lists → List MemberRow → List Membership
+memberships_with l rows = l.memberships ++ filter_map (membership_of l) (new_members l rows)
 
 abbrev pub membership_count : Lists → List MemberRow → ℕ
-membership_count l rows = count_with l.memberships (is_member_row l) same_member rows
+membership_count l rows = length l.memberships + length (new_members l rows)
 
 -- ALTER TABLE .. ENABLE ROW LEVEL SECURITY
 abbrev pub with_number : ℕ → List ℕ → List ℕ

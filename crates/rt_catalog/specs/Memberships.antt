@@ -15,7 +15,7 @@ every_role l = range_with_len 0 (length l.roles)
 abbrev pub joins : List Membership → ℕ → ℕ → Bool
 joins memberships role group = list_any (λ m. m.role == role && m.group == group) memberships
 
--- a ring: some role is a member of itself, directly or through others, whether or not these inherit
+-- A ring: some role is a member of itself, directly or through others, whether or not these inherit. That this is a path is a law.
 abbrev pub has_own_member : Lists → Bool
 has_own_member l = list_any (λ role. through (joins l.memberships) (length l.roles) role role) (every_role l)
 

@@ -165,7 +165,7 @@ refused_statement l (statement.Member groups roles) = refused_member l groups ro
 refused_statement l (statement.Secure q) = refused_secure l q
 refused_statement l (statement.Policy p) = refused_policy l p
 
--- Of the whole file: the first policy for ALL or SELECT whose table reaches itself.
+-- Of the whole file: the first policy for ALL or SELECT whose table reaches itself. That this is `IsInRing` is a law.
 abbrev pub reaches : Lists → ℕ → ℕ → Bool
 reaches l t u = through (leads l.policies) (length l.tables) t u
 

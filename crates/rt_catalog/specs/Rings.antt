@@ -21,3 +21,8 @@ PathsAreComputed =
 -- a table leads to another where a policy for ALL or SELECT on it has an EXISTS on the other
 abbrev pub leads : List TablePolicy → ℕ → ℕ → Bool
 leads policies t u = list_any (λ p. (p.table == t) && p.policy.selects && list_any (λ r. r.table == u) p.readings) policies
+
+-- the table of a policy for ALL or SELECT leads to itself
+pub record IsInRing (policies : List TablePolicy) (p : TablePolicy) : Type 0 where
+  pub selects : p.policy.selects ≡ true
+  pub path : Path (leads policies) p.table p.table
