@@ -36,7 +36,7 @@ columns_there l table t o at = ap (λ (s : Option Table). number_or_none (λ nam
 
 -- a row that has numbers is of the lists, and has its names
 pub record IsRowOf (l : Lists) (r : GrantRow) (g : Grant) : Type 0 where
-  pub of : IsGrantOf l g
+  pub of : IsGrantOf l.tables l.roles g
   pub names : row_of l g ≡ Some r
 
 pub grant_named : (l : Lists) (r : GrantRow) (g : Grant) → grant_of l r ≡ Some g → IsRowOf l r g
@@ -65,7 +65,7 @@ pub one_row : (l : Lists) (r s : GrantRow) (g : Grant) → grant_of l r ≡ Some
 one_row l r s g h k = let e : Some r ≡ Some s = sym (grant_named l r g h).names ∙ (grant_named l s g k).names in cc
 
 -- and lead back to it
-pub grant_back : (l : Lists) → IsSound l → (g : Grant) → IsGrantOf l g → (r : GrantRow) × (row_of l g ≡ Some r) × (grant_of l r ≡ Some g)
+pub grant_back : (l : Lists) → IsSound l → (g : Grant) → IsGrantOf l.tables l.roles g → (r : GrantRow) × (row_of l g ≡ Some r) × (grant_of l r ≡ Some g)
 grant_back l sound g of =
     let t = of.table in
     let column = name_at column_name t.columns g.column in
@@ -84,7 +84,7 @@ grant_back l sound g of =
 
 -- the same of memberships
 pub record IsMemberOf (l : Lists) (r : MemberRow) (m : Membership) : Type 0 where
-  pub of : IsMembershipOf l m
+  pub of : IsMembershipOf l.roles m
   pub role : role_number l r.role ≡ Some m.role
   pub group : role_number l r.group ≡ Some m.group
 

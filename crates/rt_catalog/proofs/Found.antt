@@ -26,7 +26,7 @@ record IsAt {A : Type 0} (test : A → Bool) (xs : List A) (from : ℕ) (e : ℕ
   at : slice_get xs place ≡ Some e.1
   passes : test e.1 ≡ true
 
-abbrev found_from : {A : Type 0} → (A → Bool) → ℕ → List A → Option (ℕ × A)
+abbrev pub found_from : {A : Type 0} → (A → Bool) → ℕ → List A → Option (ℕ × A)
 found_from test from xs = find (λ e. test e.1) (enumerate_from from xs)
 
 find_here : {A : Type 0} (test : A → Bool) (from : ℕ) (x : A) (xs : List A) (e : ℕ × A) (b : Bool) → test x ≡ b

@@ -55,7 +55,7 @@ module _ (l : Lists) (sound : IsSound l) where
   abbrev names : List GrantRow
   names = filter_map (row_of l) l.grants
 
-  names_back : (gs : List Grant) → AllByRecursion (IsGrantOf l) gs
+  names_back : (gs : List Grant) → AllByRecursion (IsGrantOf l.tables l.roles) gs
       → (filter_map (grant_of l) (filter_map (row_of l) gs) ≡ gs) × (length (filter_map (row_of l) gs) ≡ length gs)
   names_back [] all = (refl, refl)
   names_back (g ∷ gs) all =
@@ -71,7 +71,7 @@ module _ (l : Lists) (sound : IsSound l) where
     to : list_any (same_row r) names ≡ true → is_granted l r ≡ true
     to h =
         let (g, at, named) = among_filter_map (row_of l) l.grants r (among_same same_row row_decides r names h) in
-        let (s, again, numbered) = grant_back l sound g (among_all (IsGrantOf l) l.grants sound.grants g at) in
+        let (s, again, numbered) = grant_back l sound g (among_all (IsGrantOf l.tables l.roles) l.grants sound.grants g at) in
         let e : Some s ≡ Some r = sym again ∙ named in
         let same : s ≡ r = cc in
         ap (is_at (λ k. list_any (same_grant k) l.grants)) (ap (grant_of l) (sym same) ∙ numbered) ∙ same_among same_grant grant_decides g l.grants at

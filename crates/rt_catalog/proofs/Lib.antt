@@ -13,4 +13,5 @@ pub mod Rows
 pub mod Same
 pub mod Shown
 pub mod Under
+pub mod Sounding
 pub mod Unrefused

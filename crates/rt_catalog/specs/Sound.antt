@@ -34,15 +34,15 @@ abbrev pub IsWithin : ℕ → Option ℕ → Type 0
 IsWithin n None = Unit {0}
 IsWithin n (Some k) = k < n
 
-pub record IsGrantOf (l : Lists) (g : Grant) : Type 0 where
+pub record IsGrantOf (tables : List Table) (roles : List ListedRole) (g : Grant) : Type 0 where
   pub table : Table
-  pub at : slice_get l.tables g.table ≡ Some table
+  pub at : slice_get tables g.table ≡ Some table
   pub column : IsWithin (length table.columns) g.column
-  pub role : IsWithin (length l.roles) g.role
+  pub role : IsWithin (length roles) g.role
 
-pub record IsMembershipOf (l : Lists) (m : Membership) : Type 0 where
-  pub role : m.role < length l.roles
-  pub group : m.group < length l.roles
+pub record IsMembershipOf (roles : List ListedRole) (m : Membership) : Type 0 where
+  pub role : m.role < length roles
+  pub group : m.group < length roles
 
 pub record IsSound (l : Lists) : Type 0 where
   pub few_tables : length l.tables ≤ table_limit
@@ -53,13 +53,13 @@ pub record IsSound (l : Lists) : Type 0 where
   pub tables : AllByRecursion IsSoundTable l.tables
   pub tables_apart : IsDistinct same_table l.tables
   pub roles_apart : IsDistinct same_role l.roles
-  pub grants : AllByRecursion (IsGrantOf l) l.grants
+  pub grants : AllByRecursion (IsGrantOf l.tables l.roles) l.grants
   pub grants_once : IsDistinct same_grant l.grants
   pub secured : AllByRecursion (λ n. n < length l.tables) l.secured
   pub secured_once : IsDistinct is_number l.secured
   pub policies : AllByRecursion (λ p. p.table < length l.tables) l.policies
   pub policies_apart : IsDistinct same_policy l.policies
-  pub memberships : AllByRecursion (IsMembershipOf l) l.memberships
+  pub memberships : AllByRecursion (IsMembershipOf l.roles) l.memberships
   pub memberships_once : IsDistinct same_membership l.memberships
   pub no_ring : (role : ℕ) → Path (joins l.memberships) role role → ⊥
 
