@@ -4,6 +4,7 @@ mod ErrorsComputed
 mod ExpiryComputed
 mod FramesComputed
 mod IdentitiesComputed
+mod MembershipsComputed
 mod NotesComputed
 mod OwnersComputed
 mod Polls
@@ -12,4 +13,5 @@ mod RestrictiveComputed
 mod RoomsComputed
 mod StatementsComputed
 mod TracksComputed
+mod UsualSetComputed
 mod VectorsComputed
