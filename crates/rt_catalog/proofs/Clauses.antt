@@ -72,6 +72,7 @@ behind_statement (g.role words name may logins) keep = behind_logins logins (beh
 behind_statement (g.grant words selected on may tables to roles) keep =
     behind_names roles (behind_keywords to (behind_tables tables (behind_may may
     (behind_keywords on (behind_columns selected (behind_keywords words keep))))))
+behind_statement (g.member words other groups to roles) keep = behind_names roles (behind_keywords to (behind_names groups (behind_keywords words keep)))
 behind_statement (g.secure words name more) keep = behind_keywords more (behind_table name (behind_keywords words keep))
 behind_statement (g.policy words name on table stance command roles using check) keep =
     behind_condition check (behind_condition using (behind_roles roles (behind_command command (behind_stance stance

@@ -1,5 +1,17 @@
+pub mod Applied
+pub mod ByName
 pub mod Clauses
+pub mod Closed
+pub mod Found
+pub mod Keeping
 pub mod Named
+pub mod Once
+pub mod Paths
 pub mod Phrases
 pub mod Readable
+pub mod Rows
+pub mod Same
 pub mod Shown
+pub mod Under
+pub mod Sounding
+pub mod Unrefused

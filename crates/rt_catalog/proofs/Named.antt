@@ -63,6 +63,7 @@ statement_named (g.table words name left items right) keep =
     (named.0, named.1, items_named items (behind_table name (behind_keywords words keep)).1 tt)
 statement_named (g.role _ _ _ _) keep = tt
 statement_named (g.grant _ _ _ _ _ _ _) keep = tt
+statement_named (g.member _ _ _ _ _) keep = tt
 statement_named (g.secure _ _ _) keep = tt
 statement_named (g.policy _ _ _ _ _ _ _ _ _) keep = tt
 

@@ -1,17 +1,17 @@
 -- The names of a catalogue that was read from a text are UTF-8.
-use Rattle.std.proofs.Common.{◌≡◌, ℕ, List, [], ◌∷◌, Option, Some, None, Result, Ok, sym, subst}
+use Rattle.std.proofs.Common.{◌≡◌, ℕ, List, [], ◌∷◌, Ok, sym, subst}
 use Rattle.std.specs.List.{AllByRecursion}
 use Rattle.rt_sql.proofs.Kept.{names_kept}
-use Rattle.rt_catalog.specs.declared.fault.Why.{Why}
 use Rattle.rt_catalog.specs.declared.statement.Item.{Item}
 use Rattle.rt_catalog.specs.declared.statement.Item.TheVariants as item
 use Rattle.rt_catalog.specs.declared.statement.Statement.{Statement}
 use Rattle.rt_catalog.specs.declared.statement.Statement.TheVariants as statement
 use Rattle.rt_catalog.specs.Grammar.{Placed}
 use Rattle.rt_catalog.specs.Lists.{Lists, no_lists, columns_of, table_of, after_statement}
-use Rattle.rt_catalog.specs.Refusals.{Refusal, refused_statement, refused_file, refused_at, lists_or, lists_from, lists_of}
+use Rattle.rt_catalog.specs.Refusals.{refused_statement, lists_after, lists_of}
 use Rattle.rt_catalog.specs.Catalogue.{IsFile}
 use Rattle.rt_catalog.specs.Names.{IsReadableColumn, IsReadableTable, NamesAreReadable}
+use Rattle.rt_catalog.proofs.Unrefused.{unrefused, goes_on}
 use Rattle.rt_catalog.proofs.Named.{IsReadableItem, IsReadableStatement, IsReadablePlaced, all_push, statements_named}
 
 abbrev HasReadableTables : Lists → Type 0
@@ -28,32 +28,20 @@ statement_keeps l at (statement.Table q items) tables named =
     (record { schema = named.0; name = named.1; columns = columns_readable items named.2 })
 statement_keeps l at (statement.Role name logins) tables named = tables
 statement_keeps l at (statement.Grant columns names roles) tables named = tables
+statement_keeps l at (statement.Member groups roles) tables named = tables
 statement_keeps l at (statement.Secure q) tables named = tables
 statement_keeps l at (statement.Policy p) tables named = tables
 
-unrefused : (l lists : Lists) (r : Option Refusal) → lists_or l r ≡ Ok lists → l ≡ lists
-unrefused l lists None e = cc
-unrefused l lists (Some r) e = absurd (cc)
-
-abbrev refused_or : ℕ → Result Lists Refusal → Option Why → Result Lists Refusal
-refused_or at more refused = elim refused [ Some reason ↦ refused_at at reason | None ↦ more ]
-
--- where the statements have lists, the first isn't refused
-goes_on : (at : ℕ) (more : Result Lists Refusal) (lists : Lists) (refused : Option Why) → refused_or at more refused ≡ Ok lists → more ≡ Ok lists
-goes_on at more lists None e = e
-goes_on at more lists (Some reason) e = absurd (cc)
-
-from_statements : (l lists : Lists) (file : List Placed) → lists_from l file ≡ Ok lists → HasReadableTables l → AllByRecursion IsReadablePlaced file
+statements_keep : (l lists : Lists) (file : List Placed) → lists_after l file ≡ Ok lists → HasReadableTables l → AllByRecursion IsReadablePlaced file
     → HasReadableTables lists
-from_statements l lists [] e tables named = subst HasReadableTables (unrefused l lists (refused_file l) e) tables
-from_statements l lists (s ∷ more) e tables named =
+statements_keep l lists [] e tables named = let same : l ≡ lists = cc in subst HasReadableTables same tables
+statements_keep l lists (s ∷ more) e tables named =
     let next : Lists = after_statement l s.at s.statement in
-    from_statements next lists more (goes_on s.at (lists_from next more) lists (refused_statement l s.statement) e)
+    statements_keep next lists more (goes_on s.at (lists_after next more) lists (refused_statement l s.statement) e).1
     (statement_keeps l s.at s.statement tables named.0) named.1
 
 tables_readable : (file : List Placed) (lists : Lists) → lists_of file ≡ Ok lists → AllByRecursion IsReadablePlaced file → HasReadableTables lists
-unfolding lists_of
-tables_readable file lists e named = from_statements no_lists lists file e tt named
+tables_readable file lists e named = statements_keep no_lists lists file (unrefused file lists e).0 tt named
 
 file_named : (text : List ℕ) (file : List Placed) → IsFile text file → AllByRecursion IsReadablePlaced file
 file_named text file is = statements_named is.written (names_kept text is.tokens is.utf8 is.cut) tt

@@ -10,6 +10,10 @@ use Rattle.rt_catalog.specs.declared.catalog.Catalog.{Catalog}
 use Rattle.rt_catalog.specs.declared.catalog.Table.{Table}
 use Rattle.rt_catalog.specs.declared.catalog.Grant.{Grant}
 
+-- the number of the first that passes the test
+abbrev pub number_where : {A : Type 0} → (A → Bool) → List A → Option ℕ
+number_where test xs = option_map (λ x. x.0) (find (λ x. test x.1) (enumerate_from 0 xs))
+
 -- nothing said means every one
 abbrev pub is_or_every : Option ℕ → ℕ → Bool
 is_or_every None n = true
@@ -31,11 +35,10 @@ abbrev pub table_at : Catalog → ℕ → Table
 table_at c table = unwrap_or (slice_get c.tables table) no_table
 
 abbrev pub role_named : Catalog → List ℕ → Option ℕ
-role_named c name = option_map (λ r. r.0) (find (λ r. bytes_eq r.1.name name) (enumerate_from 0 c.roles))
+role_named c name = number_where (λ r. bytes_eq r.name name) c.roles
 
 abbrev pub table_named : Catalog → List ℕ → List ℕ → Option ℕ
-table_named c schema name =
-    option_map (λ t. t.0) (find (λ t. bytes_eq t.1.schema schema && bytes_eq t.1.name name) (enumerate_from 0 c.tables))
+table_named c schema name = number_where (λ t. bytes_eq t.schema schema && bytes_eq t.name name) c.tables
 
 abbrev pub bypasses : Catalog → ℕ → Bool
 bypasses c role = is_at (λ r. r.bypass) (slice_get c.roles role)

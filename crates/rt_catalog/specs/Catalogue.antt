@@ -19,6 +19,7 @@ use Rattle.rt_catalog.specs.declared.fault.CatalogFault.{CatalogFault}
 use Rattle.rt_catalog.specs.declared.fault.CatalogFault.TheVariants.{NoMemory, Refused}
 use Rattle.rt_catalog.specs.Grammar.{Placed, Written, MayGoOn}
 use Rattle.rt_catalog.specs.Lists.{Lists}
+use Rattle.rt_catalog.specs.Memberships.{closed}
 use Rattle.rt_catalog.specs.Refusals.{lists_of, reaches}
 
 -- the text's tokens are the statements
@@ -41,21 +42,21 @@ pub record IsRulesOf (l : Lists) (table : ℕ) (rules : TableRules) : Type 0 whe
   pub policies : rules.policies ≡ policies_on l table
   pub rank : rules.rank ≡ count_by (reaches l table) (range_with_len 0 (length l.tables))
 
--- the catalogue holds the five lists
+-- the catalogue holds the first five lists
 pub record Holds (c : Catalog) (l : Lists) : Type 0 where
   pub tables : c.tables ≡ l.tables
-  pub roles : c.roles ≡ l.roles
+  pub roles : c.roles ≡ map (λ r. r.role) l.roles
   pub grants : c.grants ≡ l.grants
   pub as_many : length c.rules.tables ≡ length l.tables
   pub rules : (table : ℕ) (rules : TableRules) → slice_get c.rules.tables table ≡ Some rules → IsRulesOf l table rules
 
--- the text is a file whose statements mean the catalogue
+-- the text is a file, `lists` are what its statements mean, and the catalogue is of the closed lists
 pub record IsCatalogue (text : List ℕ) (c : Catalog) : Type 0 where
   pub file : List Placed
   pub is_file : IsFile text file
   pub lists : Lists
   pub meant : lists_of file ≡ Ok lists
-  pub holds : Holds c lists
+  pub holds : Holds c (closed lists)
 
 -- where a token begins; behind the last it is the text's end
 abbrev pub place_of : List ℕ → List Token → ℕ → ℕ

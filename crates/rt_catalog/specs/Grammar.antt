@@ -133,6 +133,11 @@ pub data IsStatement : Statement → List Lexeme → List Lexeme → Type 0 wher
       → Keywords (codes "grant" ∷ codes "select" ∷ []) xs ys → Columns names ys zs → Keywords (codes "on" ∷ []) zs us → May (codes "table") us vs
       → QNames [] tables vs ws → Keywords (codes "to" ∷ []) ws ts → Names [] roles ts rs
       → IsStatement (statement.Grant names tables roles) xs rs
+  -- told from a grant of SELECT by the word behind GRANT
+  member : {groups roles : List (List ℕ)} {x : Lexeme} {xs ys zs us vs : List Lexeme}
+      → Keywords (codes "grant" ∷ []) xs (x ∷ ys) → (IsKeyword (codes "select") x → ⊥) → Names [] groups (x ∷ ys) zs
+      → Keywords (codes "to" ∷ []) zs us → Names [] roles us vs
+      → IsStatement (statement.Member groups roles) xs vs
   secure : {q : TableName} {xs ys zs us : List Lexeme}
       → Keywords (codes "alter" ∷ codes "table" ∷ []) xs ys → IsQName q ys zs
       → Keywords (codes "enable" ∷ codes "row" ∷ codes "level" ∷ codes "security" ∷ []) zs us

@@ -1,8 +1,12 @@
 pub mod Access
 pub mod Catalogue
+pub mod Closing
 pub mod Grammar
+pub mod Kept
 pub mod Lists
+pub mod Memberships
 pub mod Names
 pub mod Refusals
 pub mod Rings
 pub mod Shown
+pub mod Sound

@@ -1,9 +1,9 @@
--- The five lists that statements mean (PostgreSQL, "SQL Commands"): tables, roles, grant rows, secured tables and policies. Statements are
--- taken in order, and each finds the lists that those before it left.
-use Rattle.std.specs.Prelude.{ℕ, ◌==◌, Bool, true, false, ◌&&◌, not, if◌then◌else◌, List, [], ◌∷◌, ◌++◌, map, length, codes, find, Option, Some, None, option_map, unwrap_or, option_to_list}
-use Rattle.std.specs.List.{list_any, filter, filter_map, flat_map, enumerate_from}
+-- The six lists that statements mean (PostgreSQL, "SQL Commands"): tables, roles, grant rows, secured tables, policies and memberships.
+-- Statements are taken in order, and each finds the lists that those before it left.
+use Rattle.std.specs.Prelude.{ℕ, ◌==◌, ◌+◌, Bool, true, false, ◌&&◌, not, if◌then◌else◌, List, [], ◌∷◌, ◌++◌, map, length, codes, slice_get, Option, Some, None, option_map, unwrap_or, option_to_list}
+use Rattle.std.specs.List.{list_any, filter, filter_map, flat_map}
 use Rattle.std.specs.Str.{bytes_eq}
-use Rattle.rt_value.specs.Choice.{◌>>=◌}
+use Rattle.rt_value.specs.Choice.{◌>>=◌, is_at}
 use Rattle.std.specs.Result.{result_ok}
 use Rattle.rt_policy.specs.declared.expr.Expr.{Expr}
 use Rattle.rt_policy.specs.declared.judge.Judge.{Judge}
@@ -17,17 +17,24 @@ use Rattle.rt_catalog.specs.declared.catalog.Table.{Table}
 use Rattle.rt_catalog.specs.declared.catalog.Column.{Column}
 use Rattle.rt_catalog.specs.declared.catalog.Role.{Role}
 use Rattle.rt_catalog.specs.declared.catalog.Grant.{Grant}
+use Rattle.rt_catalog.specs.declared.catalog.Membership.{Membership}
 use Rattle.rt_catalog.specs.declared.statement.TableName.{TableName}
 use Rattle.rt_catalog.specs.declared.statement.Mark.{Mark}
 use Rattle.rt_catalog.specs.declared.statement.Mark.TheVariants.{PrimaryKey}
 use Rattle.rt_catalog.specs.declared.statement.Item.{Item}
 use Rattle.rt_catalog.specs.declared.statement.Item.TheVariants as item
 use Rattle.rt_catalog.specs.declared.statement.Login.{Login}
-use Rattle.rt_catalog.specs.declared.statement.Login.TheVariants.{BypassRls, NoBypassRls}
+use Rattle.rt_catalog.specs.declared.statement.Login.TheVariants.{Inherit, NoInherit, BypassRls, NoBypassRls}
 use Rattle.rt_catalog.specs.declared.statement.PolicyText.{PolicyText}
 use Rattle.rt_catalog.specs.declared.statement.Statement.{Statement}
 use Rattle.rt_catalog.specs.declared.statement.Statement.TheVariants as statement
 use Rattle.rt_catalog.specs.Grammar.{selects}
+use Rattle.rt_catalog.specs.Access.{number_where}
+
+-- a role, and whether it inherits from the roles that it is a member of
+pub record ListedRole : Type 0 where
+  pub role : Role
+  pub inherits : Bool
 
 -- a policy of a table, with what its subqueries read, and the number of its statement's first token
 pub record TablePolicy : Type 0 where
@@ -38,18 +45,16 @@ pub record TablePolicy : Type 0 where
 
 pub record Lists : Type 0 where
   pub tables : List Table
-  pub roles : List Role
+  pub roles : List ListedRole
   pub grants : List Grant
   pub secured : List ℕ
   pub policies : List TablePolicy
+  pub memberships : List Membership
 
 abbrev pub no_lists : Lists
-no_lists = record { tables = []; roles = []; grants = []; secured = []; policies = [] }
+no_lists = record { tables = []; roles = []; grants = []; secured = []; policies = []; memberships = [] }
 
 -- looking up
-abbrev pub number_where : {A : Type 0} → (A → Bool) → List A → Option ℕ
-number_where test xs = option_map (λ x. x.0) (find (λ x. test x.1) (enumerate_from 0 xs))
-
 abbrev pub is_table : TableName → Table → Bool
 is_table q t = bytes_eq t.schema q.schema && bytes_eq t.name q.name
 
@@ -57,7 +62,7 @@ abbrev pub table_number : Lists → TableName → Option ℕ
 table_number l q = number_where (is_table q) l.tables
 
 abbrev pub role_number : Lists → List ℕ → Option ℕ
-role_number l name = number_where (λ r. bytes_eq r.name name) l.roles
+role_number l name = number_where (λ r. bytes_eq r.role.name name) l.roles
 
 abbrev pub column_number : Table → List ℕ → Option ℕ
 column_number t name = number_where (λ c. bytes_eq c.name name) t.columns
@@ -97,15 +102,30 @@ key_of q items = numbers_of (column_number (bare_table q items)) (flat_map (λ k
 abbrev pub table_of : TableName → List Item → Table
 table_of q items = record (bare_table q items) { key = key_of q items }
 
--- CREATE ROLE: of BYPASSRLS and NOBYPASSRLS the last counts, and without either a role doesn't bypass
+-- CREATE ROLE: of BYPASSRLS and NOBYPASSRLS, and of INHERIT and NOINHERIT, the last counts; without either a role doesn't bypass, and inherits
 abbrev pub bypass_after : Bool → List Login → Bool
 bypass_after before [] = before
 bypass_after before (BypassRls ∷ more) = bypass_after true more
 bypass_after before (NoBypassRls ∷ more) = bypass_after false more
 bypass_after before (l ∷ more) = bypass_after before more
 
-abbrev pub role_of : List ℕ → List Login → Role
-role_of name logins = record { name = name; bypass = bypass_after false logins }
+abbrev pub inherits_after : Bool → List Login → Bool
+inherits_after before [] = before
+inherits_after before (Inherit ∷ more) = inherits_after true more
+inherits_after before (NoInherit ∷ more) = inherits_after false more
+inherits_after before (l ∷ more) = inherits_after before more
+
+abbrev pub role_of : List ℕ → List Login → ListedRole
+role_of name logins = record { role = record { name = name; bypass = bypass_after false logins }; inherits = inherits_after true logins }
+
+-- Of rows each once, the first of those that are the same, behind those before.
+abbrev pub each_once : {A : Type 0} → (A → A → Bool) → List A → List A → List A
+each_once same before [] = before
+each_once same before (x ∷ more) = each_once same (elim (list_any (same x) before) [ true ↦ before | false ↦ before ++ x ∷ [] ]) more
+
+-- the rows of a statement that don't stand yet, each once; by their names, known or not
+abbrev pub new_rows : {A : Type 0} → (A → Bool) → (A → A → Bool) → List A → List A
+new_rows stands same rows = each_once same [] (filter (λ r. not (stands r)) rows)
 
 -- GRANT: a row by its names, the table or a column of it, and a role or PUBLIC
 pub record GrantRow : Type 0 where
@@ -133,26 +153,12 @@ abbrev pub rows_of : List (List ℕ) → List TableName → List (List ℕ) → 
 rows_of columns tables roles =
     flat_map (λ t. flat_map (λ c. map (λ r. record { table = t; column = c; role = role_or_public r }) roles) (columns_or_whole columns)) tables
 
-abbrev pub with_row : List GrantRow → GrantRow → List GrantRow
-with_row rows r = elim (list_any (same_row r) rows) [ true ↦ rows | false ↦ rows ++ r ∷ [] ]
-
--- an equal row is kept once
-abbrev pub with_rows : List GrantRow → List GrantRow → List GrantRow
-with_rows rows [] = rows
-with_rows rows (r ∷ more) = with_rows (with_row rows r) more
-
-abbrev pub name_of_table : Table → TableName
-name_of_table t = record { schema = t.schema; name = t.name }
-
 abbrev pub number_or_none : {A : Type 0} → (A → Option ℕ) → Option A → Option (Option ℕ)
 number_or_none look None = Some None
 number_or_none look (Some x) = option_map Some (look x)
 
-abbrev pub at_number : {A : Type 0} → List A → ℕ → Option A
-at_number xs n = option_map (λ x. x.1) (find (λ x. x.0 == n) (enumerate_from 0 xs))
-
 abbrev pub column_of_table : Lists → ℕ → List ℕ → Option ℕ
-column_of_table l table name = at_number l.tables table >>= λ t. column_number t name
+column_of_table l table name = slice_get l.tables table >>= λ t. column_number t name
 
 -- a row by its numbers, none where a name is unknown
 abbrev pub grant_of : Lists → GrantRow → Option Grant
@@ -162,21 +168,56 @@ grant_of l r =
     number_or_none (role_number l) r.role >>= λ role.
     Some (record { table = table; column = column; role = role })
 
--- a row by its names
-abbrev pub row_of : Lists → Grant → Option GrantRow
-row_of l g =
-    at_number l.tables g.table >>= λ t.
-    Some (record {
-      table = name_of_table t;
-      column = g.column >>= λ n. option_map (λ c. c.name) (at_number t.columns n);
-      role = g.role >>= λ n. option_map (λ r. r.name) (at_number l.roles n);
-    })
+abbrev pub is_number : ℕ → ℕ → Bool
+is_number m n = m == n
 
-abbrev pub rows_before : Lists → List GrantRow
-rows_before l = filter_map (row_of l) l.grants
+abbrev pub same_grant : Grant → Grant → Bool
+same_grant a b = a.table == b.table && same_option is_number a.column b.column && same_option is_number a.role b.role
 
-abbrev pub rows_after : Lists → List GrantRow → List GrantRow
-rows_after l more = with_rows (rows_before l) more
+abbrev pub is_granted : Lists → GrantRow → Bool
+is_granted l r = is_at (λ g. list_any (same_grant g) l.grants) (grant_of l r)
+
+abbrev pub new_grants : Lists → List GrantRow → List GrantRow
+new_grants l rows = new_rows (is_granted l) same_row rows
+
+-- an equal row is kept once
+abbrev pub grants_with : Lists → List GrantRow → List Grant
+grants_with l rows = l.grants ++ filter_map (grant_of l) (new_grants l rows)
+
+abbrev pub grant_count : Lists → List GrantRow → ℕ
+grant_count l rows = length l.grants + length (new_grants l rows)
+
+-- GRANT of roles: a row by its names, a role and its group
+pub record MemberRow : Type 0 where
+  pub role : List ℕ
+  pub group : List ℕ
+
+abbrev pub same_member : MemberRow → MemberRow → Bool
+same_member a b = bytes_eq a.role b.role && bytes_eq a.group b.group
+
+abbrev pub member_rows : List (List ℕ) → List (List ℕ) → List MemberRow
+member_rows groups roles = flat_map (λ g. map (λ r. record { role = r; group = g }) roles) groups
+
+abbrev pub membership_of : Lists → MemberRow → Option Membership
+membership_of l r =
+    role_number l r.role >>= λ role.
+    role_number l r.group >>= λ group.
+    Some (record { role = role; group = group })
+
+abbrev pub same_membership : Membership → Membership → Bool
+same_membership a b = a.role == b.role && a.group == b.group
+
+abbrev pub is_member : Lists → MemberRow → Bool
+is_member l r = is_at (λ m. list_any (same_membership m) l.memberships) (membership_of l r)
+
+abbrev pub new_members : Lists → List MemberRow → List MemberRow
+new_members l rows = new_rows (is_member l) same_member rows
+
+abbrev pub memberships_with : Lists → List MemberRow → List Membership
+memberships_with l rows = l.memberships ++ filter_map (membership_of l) (new_members l rows)
+
+abbrev pub membership_count : Lists → List MemberRow → ℕ
+membership_count l rows = length l.memberships + length (new_members l rows)
 
 -- ALTER TABLE .. ENABLE ROW LEVEL SECURITY
 abbrev pub with_number : ℕ → List ℕ → List ℕ
@@ -219,6 +260,7 @@ with_table l t = record l { tables = l.tables ++ t ∷ [] }
 abbrev pub after_statement : Lists → ℕ → Statement → Lists
 after_statement l at (statement.Table q items) = with_table l (table_of q items)
 after_statement l at (statement.Role name logins) = record l { roles = l.roles ++ role_of name logins ∷ [] }
-after_statement l at (statement.Grant columns tables roles) = record l { grants = filter_map (grant_of l) (rows_after l (rows_of columns tables roles)) }
+after_statement l at (statement.Grant columns tables roles) = record l { grants = grants_with l (rows_of columns tables roles) }
+after_statement l at (statement.Member groups roles) = record l { memberships = memberships_with l (member_rows groups roles) }
 after_statement l at (statement.Secure q) = record l { secured = unwrap_or (option_map (λ n. with_number n l.secured) (table_number l q)) l.secured }
 after_statement l at (statement.Policy p) = record l { policies = l.policies ++ option_to_list (option_map (λ n. policy_of l n at p) (table_number l p.table)) }

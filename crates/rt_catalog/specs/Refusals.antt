@@ -1,6 +1,6 @@
 -- Why a statement is refused by the lists that it finds, and why a file is: the first reason in the order limit, unknown name, twice, opaque key,
--- type; and of the whole file ring, then hidden column.
-use Rattle.std.specs.Prelude.{ℕ, ◌==◌, ◌+◌, nat_lt, Bool, true, false, ◌&&◌, ◌||◌, not, List, [], ◌∷◌, ◌++◌, map, length, find, Option, Some, None, option_map, unwrap_or, is_some, is_none, Result, Ok, Err}
+-- type, ring of members; and of the whole file ring of policies, then hidden column.
+use Rattle.std.specs.Prelude.{ℕ, ◌==◌, ◌+◌, nat_lt, Bool, true, false, ◌&&◌, ◌||◌, not, List, [], ◌∷◌, ◌++◌, map, length, slice_get, find, Option, Some, None, option_map, unwrap_or, is_some, is_none, Result, Ok, Err}
 use Rattle.std.specs.List.{list_any, list_all, flat_map, range_with_len}
 use Rattle.std.specs.Str.{bytes_eq}
 use Rattle.rt_value.specs.declared.value.Kind.{Kind}
@@ -9,7 +9,7 @@ use Rattle.rt_value.specs.Choice.{is_at}
 use Rattle.rt_policy.specs.declared.judge.Judge.{Judge}
 use Rattle.rt_policy.specs.declared.fault.ExprFault.{ExprFault}
 use Rattle.rt_policy.specs.declared.fault.ExprFault.TheVariants as fault
-use Rattle.rt_policy.specs.Resolution.{resolved}
+use Rattle.rt_policy.specs.Resolution.{resolved, or_else}
 use Rattle.rt_policy.specs.Readings.{TableReading}
 use Rattle.rt_policy.specs.Sizes.{names_in, names_of_type, is_shallow, depth_limit}
 use Rattle.rt_catalog.specs.declared.fault.Why.{Why}
@@ -23,7 +23,8 @@ use Rattle.rt_catalog.specs.declared.statement.Statement.TheVariants as statemen
 use Rattle.rt_catalog.specs.Grammar.{Placed}
 use Rattle.rt_catalog.specs.Access.{permits}
 use Rattle.rt_catalog.specs.Rings.{leads, through}
-use Rattle.rt_catalog.specs.Lists.{Lists, TablePolicy, no_lists, table_number, role_number, column_number, at_number, is_public, is_table, columns_of, key_clauses, key_of, bare_table, rows_of, rows_after, grant_of, scope_of, expressions_of, after_statement}
+use Rattle.rt_catalog.specs.Lists.{Lists, TablePolicy, no_lists, table_number, role_number, column_number, is_public, is_table, columns_of, key_clauses, key_of, bare_table, rows_of, grant_of, grant_count, member_rows, memberships_with, membership_count, scope_of, expressions_of, after_statement}
+use Rattle.rt_catalog.specs.Memberships.{every_role, has_own_member, closed}
 
 abbrev pub table_limit : ℕ
 table_limit = 256
@@ -39,6 +40,9 @@ grant_limit = 4096
 
 abbrev pub policy_limit : ℕ
 policy_limit = 1024
+
+abbrev pub membership_limit : ℕ
+membership_limit = 4096
 
 abbrev pub name_limit : ℕ
 name_limit = 63
@@ -80,7 +84,7 @@ abbrev pub has_unknown_key : TableName → List Item → Bool
 has_unknown_key q items = list_any (list_any (λ n. is_none (column_number (bare_table q items) n))) (key_clauses items)
 
 abbrev pub has_opaque_key : TableName → List Item → Bool
-has_opaque_key q items = list_any (λ n. is_at (λ c. is_opaque c.kind) (at_number (columns_of items) n)) (key_of q items)
+has_opaque_key q items = list_any (λ n. is_at (λ c. is_opaque c.kind) (slice_get (columns_of items) n)) (key_of q items)
 
 abbrev pub refused_table : Lists → TableName → List Item → Option Why
 refused_table l q items = first_why (
@@ -100,12 +104,21 @@ refused_role l name = first_why (
     ∷ (is_public name || is_some (role_number l name), why.Twice)
     ∷ [])
 
--- GRANT: rows are counted after equal ones are dropped, by name where a name is unknown
+-- GRANT
 abbrev pub refused_grant : Lists → List (List ℕ) → List TableName → List (List ℕ) → Option Why
 refused_grant l columns tables roles = first_why (
-    over (length (rows_after l (rows_of columns tables roles))) grant_limit
+    over (grant_count l (rows_of columns tables roles)) grant_limit
     ∷ long_names (columns ++ flat_map names_of_table tables ++ roles)
     ∷ (list_any (λ r. is_none (grant_of l r)) (rows_of columns tables roles), why.UnknownName)
+    ∷ [])
+
+-- GRANT of roles: PUBLIC is no role
+abbrev pub refused_member : Lists → List (List ℕ) → List (List ℕ) → Option Why
+refused_member l groups roles = first_why (
+    over (membership_count l (member_rows groups roles)) membership_limit
+    ∷ long_names (groups ++ roles)
+    ∷ (list_any (λ n. is_none (role_number l n)) (groups ++ roles), why.UnknownName)
+    ∷ (has_own_member (record l { memberships = memberships_with l (member_rows groups roles) }), why.Ring)
     ∷ [])
 
 -- ALTER TABLE .. ENABLE ROW LEVEL SECURITY
@@ -148,10 +161,11 @@ abbrev pub refused_statement : Lists → Statement → Option Why
 refused_statement l (statement.Table q items) = refused_table l q items
 refused_statement l (statement.Role name logins) = refused_role l name
 refused_statement l (statement.Grant columns tables roles) = refused_grant l columns tables roles
+refused_statement l (statement.Member groups roles) = refused_member l groups roles
 refused_statement l (statement.Secure q) = refused_secure l q
 refused_statement l (statement.Policy p) = refused_policy l p
 
--- Of the whole file: the first policy for ALL or SELECT whose table reaches itself.
+-- Of the whole file: the first policy for ALL or SELECT whose table reaches itself. That this is `IsInRing` is a law.
 abbrev pub reaches : Lists → ℕ → ℕ → Bool
 reaches l t u = through (leads l.policies) (length l.tables) t u
 
@@ -163,7 +177,7 @@ abbrev pub lists_permit : Lists → ℕ → ℕ → ℕ → Bool
 lists_permit l role table column = list_any (permits role table column) l.grants
 
 abbrev pub column_numbers : Lists → ℕ → List ℕ
-column_numbers l table = range_with_len 0 (unwrap_or (option_map (λ t. length t.columns) (at_number l.tables table)) 0)
+column_numbers l table = range_with_len 0 (unwrap_or (option_map (λ t. length t.columns) (slice_get l.tables table)) 0)
 
 -- the role may not SELECT a column that the subquery names of the table, or no column of it at all
 abbrev pub hides : Lists → TableReading → ℕ → Bool
@@ -171,11 +185,11 @@ hides l r role =
     not (list_all (lists_permit l role r.table) r.columns) || not (list_any (lists_permit l role r.table) (column_numbers l r.table))
 
 abbrev pub role_numbers : Lists → Option (List ℕ) → List ℕ
-role_numbers l None = range_with_len 0 (length l.roles)
+role_numbers l None = every_role l
 role_numbers l (Some roles) = roles
 
 abbrev pub bypasses_in : Lists → ℕ → Bool
-bypasses_in l role = is_at (λ r. r.bypass) (at_number l.roles role)
+bypasses_in l role = is_at (λ r. r.role.bypass) (slice_get l.roles role)
 
 -- a policy for ALL or SELECT with a subquery, for a role without BYPASSRLS that may not run it
 abbrev pub has_hidden_column : Lists → TablePolicy → Bool
@@ -190,26 +204,27 @@ Refusal = ℕ × Why
 abbrev pub first_policy : (TablePolicy → Bool) → Why → Lists → Option Refusal
 first_policy test reason l = option_map (λ p. (p.at, reason)) (find test l.policies)
 
-abbrev pub or_else : {A : Type 0} → Option A → Option A → Option A
-or_else None other = other
-or_else (Some x) other = Some x
-
+-- hidden columns are asked of the closed lists
 abbrev pub refused_file : Lists → Option Refusal
-refused_file l = or_else (first_policy (is_in_ring l) why.Ring l) (first_policy (has_hidden_column l) why.HiddenColumn l)
+refused_file l = or_else (first_policy (is_in_ring l) why.Ring l) (first_policy (has_hidden_column (closed l)) why.HiddenColumn (closed l))
+
+abbrev pub refused_at : ℕ → Why → Result Lists Refusal
+refused_at at reason = Err (at, reason)
+
+-- the lists after these statements, or the first that is refused
+abbrev pub lists_after : Lists → List Placed → Result Lists Refusal
+lists_after l [] = Ok l
+lists_after l (s ∷ more) =
+    elim (refused_statement l s.statement) [ Some reason ↦ refused_at s.at reason | None ↦ lists_after (after_statement l s.at s.statement) more ]
 
 abbrev pub lists_or : Lists → Option Refusal → Result Lists Refusal
 lists_or l None = Ok l
 lists_or l (Some r) = Err r
 
-abbrev pub refused_at : ℕ → Why → Result Lists Refusal
-refused_at at reason = Err (at, reason)
+abbrev pub unless_refused : Result Lists Refusal → Result Lists Refusal
+unless_refused (Ok l) = lists_or l (refused_file l)
+unless_refused (Err r) = Err r
 
--- the lists after these statements, or the first refusal
-abbrev pub lists_from : Lists → List Placed → Result Lists Refusal
-lists_from l [] = lists_or l (refused_file l)
-lists_from l (s ∷ more) =
-    elim (refused_statement l s.statement) [ Some reason ↦ refused_at s.at reason | None ↦ lists_from (after_statement l s.at s.statement) more ]
-
--- what a file's statements mean
+-- what a file's statements mean, as they are written
 unfoldable pub lists_of : List Placed → Result Lists Refusal
-lists_of file = lists_from no_lists file
+lists_of file = unless_refused (lists_after no_lists file)

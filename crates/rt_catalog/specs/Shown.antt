@@ -1,8 +1,9 @@
--- How a refusal of a catalogue is shown.
-use Rattle.std.specs.Prelude.{ℕ, ◌==◌, ◌+◌, List, ◌++◌, codes, count_by, take, reverse, true, false, [], ◌∷◌}
+-- How a refusal of a catalogue is shown, and how much stands in one.
+use Rattle.std.specs.Prelude.{ℕ, ◌==◌, ◌+◌, List, ◌++◌, codes, count_by, take, reverse, length, true, false, [], ◌∷◌}
 use Rattle.std.specs.Fmt.{decimal}
 use Rattle.rt_catalog.specs.declared.fault.Why.{Why}
 use Rattle.rt_catalog.specs.declared.fault.Why.TheVariants as why
+use Rattle.rt_catalog.specs.Lists.{Lists}
 
 abbrev pub why_text : Why → List ℕ
 why_text why.Syntax = codes "syntax"
@@ -25,3 +26,9 @@ bytes_in_line (b ∷ bytes) = elim (b == 10) [ true ↦ 0 | false ↦ bytes_in_l
 
 abbrev pub column_of : List ℕ → ℕ → ℕ
 column_of text at = bytes_in_line (reverse (take at text)) + 1
+
+-- how much is written, before anything is inherited
+abbrev pub check_line : Lists → List ℕ
+check_line l =
+    codes "tables " ++ decimal (length l.tables) ++ codes " roles " ++ decimal (length l.roles) ++ codes " grants " ++ decimal (length l.grants)
+    ++ codes " policies " ++ decimal (length l.policies)

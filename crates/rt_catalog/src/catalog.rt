@@ -45,6 +45,13 @@ pub struct Grant {
     pub role: Option<u32>,
 }
 
+/// A role is a member of another, which is then its group.
+#[derive(Clone, Copy, Debug, Drop, PartialEq, Eq)]
+pub struct Membership {
+    pub role: u32,
+    pub group: u32,
+}
+
 /// Tables and roles are named by their numbers, in the order of their statements. The rules have an entry for each table.
 #[derive(Drop)]
 pub struct Catalog {

@@ -6,6 +6,6 @@ mod fault;
 pub mod laws;
 mod statement;
 
-pub use catalog::{Catalog, Column, Grant, Role, Table};
+pub use catalog::{Catalog, Column, Grant, Membership, Role, Table};
 pub use fault::{CatalogFault, Why};
 pub use statement::{Command, Item, Login, Mark, PolicyText, Statement, TableName};

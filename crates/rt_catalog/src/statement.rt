@@ -117,6 +117,11 @@ pub enum Statement {
         /// The roles that it is to.
         roles: List<Text>,
     },
+    /// GRANT of roles to roles: the roles behind TO become members of those before it.
+    Member {
+        groups: List<Text>,
+        roles: List<Text>,
+    },
     /// ALTER TABLE .. ENABLE ROW LEVEL SECURITY
     Secure {
         /// The table that is secured.

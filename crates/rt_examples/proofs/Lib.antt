@@ -5,6 +5,7 @@ mod ExpiryComputed
 mod FiltersComputed
 mod FramesComputed
 mod IdentitiesComputed
+mod MembershipsComputed
 mod NotesComputed
 mod OwnersComputed
 mod Polls
@@ -14,4 +15,5 @@ mod RestrictiveComputed
 mod RoomsComputed
 mod StatementsComputed
 mod TracksComputed
+mod UsualSetComputed
 mod VectorsComputed

@@ -5,10 +5,13 @@ pub mod Errors
 pub mod Expiry
 pub mod Filters
 pub mod Folds
+pub mod Forms
 pub mod Frames
 pub mod Identities
+pub mod Memberships
 pub mod Notes
 pub mod Owners
+pub mod Policied
 pub mod Policies
 pub mod Posts
 pub mod Renewal
@@ -16,4 +19,5 @@ pub mod Restrictive
 pub mod Rooms
 pub mod Statements
 pub mod Tracks
+pub mod UsualSet
 pub mod Vectors

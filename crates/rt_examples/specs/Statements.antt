@@ -1,5 +1,5 @@
 -- Statements and the lists that they mean, and statements that are refused.
-use Rattle.std.specs.Prelude.{◌≡◌, ℕ, List, [], ◌∷◌, true, false, codes, Some, None, Ok, Err}
+use Rattle.std.specs.Prelude.{◌≡◌, ℕ, List, [], ◌∷◌, true, false, codes, Some, None, Result, Ok, Err}
 use Rattle.rt_value.specs.declared.value.Kind.TheVariants as kind
 use Rattle.rt_policy.specs.declared.expr.TypeName.{TypeName}
 use Rattle.rt_policy.specs.declared.expr.TypeName.TheVariants.{Named}
@@ -11,8 +11,8 @@ use Rattle.rt_catalog.specs.declared.statement.Statement.{Statement}
 use Rattle.rt_catalog.specs.declared.statement.Statement.TheVariants.{Table, Role, Grant, Secure}
 use Rattle.rt_catalog.specs.declared.fault.Why.TheVariants.{Twice, UnknownName, OpaqueKey}
 use Rattle.rt_catalog.specs.Grammar.{Placed}
-use Rattle.rt_catalog.specs.Lists.{Lists}
-use Rattle.rt_catalog.specs.Refusals.{lists_of}
+use Rattle.rt_catalog.specs.Lists.{Lists, no_lists}
+use Rattle.rt_catalog.specs.Refusals.{Refusal, lists_of}
 
 abbrev pub in_public : List ℕ → TableName
 in_public name = record { schema = codes "public"; name = name }
@@ -22,6 +22,11 @@ type_named name = Named name false
 
 abbrev pub at : ℕ → Statement → Placed
 at n s = record { at = n; statement = s }
+
+-- the lists of statements that aren't refused
+abbrev pub lists_in : Result Lists Refusal → Lists
+lists_in (Ok l) = l
+lists_in (Err r) = no_lists
 
 -- create table notes (id int4 primary key, body varchar, tags text[]);
 abbrev pub notes_table : Statement
@@ -47,12 +52,14 @@ lists =
             ∷ record { name = codes "tags"; kind = kind.Opaque; shown = codes "_text" } ∷ [];
         key = 0 ∷ [];
       } ∷ [];
-      roles = record { name = codes "authenticated"; bypass = false } ∷ record { name = codes "service_role"; bypass = true } ∷ [];
+      roles = record { role = record { name = codes "authenticated"; bypass = false }; inherits = true }
+          ∷ record { role = record { name = codes "service_role"; bypass = true }; inherits = true } ∷ [];
       grants =
           record { table = 0; column = Some 0; role = Some 0 } ∷ record { table = 0; column = Some 0; role = None }
           ∷ record { table = 0; column = Some 1; role = Some 0 } ∷ record { table = 0; column = Some 1; role = None } ∷ [];
       secured = 0 ∷ [];
       policies = [];
+      memberships = [];
     }
 
 abbrev pub StatementsMeanLists : Type 0

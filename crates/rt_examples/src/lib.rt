@@ -2,6 +2,8 @@
 #![tactic(auto)]
 
 ghost use Rattle.rt_examples.specs.Statements.{StatementsMeanLists, OpaqueKeyIsRefused, SecondRoleIsRefused, PublicIsNoRole, UnknownColumnIsRefused};
+ghost use Rattle.rt_examples.specs.UsualSet.{UsualSetIsRead, RingIsRefused, HiddenColumnIsRefused, OneHidesNothing};
+ghost use Rattle.rt_examples.specs.Memberships.{MembersSelect, MemberRingIsRefused, OwnMemberIsRefused, PublicIsNoMember, BypassStays, QuotedIsAGroup};
 ghost use Rattle.rt_examples.specs.Vectors.{TagIsKnown, TokenHasNoRole, TokenExpires, UnsignedIsRefused, TwoPartsAreNoToken};
 ghost use Rattle.rt_examples.specs.Frames.{ChannelsAreLimited, FramesAreAnswered, JoinsAreRefused};
 ghost use Rattle.rt_examples.specs.Errors.{ErrorsAreSent, HiddenKeyIsAnError};
@@ -116,4 +118,22 @@ pub fn statements()
     ensures second_role { SecondRoleIsRefused }
     ensures public_role { PublicIsNoRole }
     ensures unknown_column { UnknownColumnIsRefused }
+{}
+
+/// What a usual set's statements mean, a ring of policies, and a hidden column: `select *` names every column of its table.
+pub fn usual_set()
+    ensures read { UsualSetIsRead }
+    ensures ring { RingIsRefused }
+    ensures hidden { HiddenColumnIsRefused }
+    ensures one { OneHidesNothing }
+{}
+
+/// Members may SELECT what their group may, but for a role that was made with NOINHERIT; rings of members are refused.
+pub fn memberships()
+    ensures select { MembersSelect }
+    ensures ring { MemberRingIsRefused }
+    ensures own { OwnMemberIsRefused }
+    ensures public_role { PublicIsNoMember }
+    ensures bypass { BypassStays }
+    ensures quoted { QuotedIsAGroup }
 {}

@@ -1,8 +1,8 @@
 -- The tables that an expression's subqueries read, each with the columns that it names of it.
-use Rattle.std.specs.Prelude.{ℕ, if◌then◌else◌, List, [], ◌∷◌, ◌++◌, Option, Some, None, option_map, unwrap_or}
-use Rattle.std.specs.List.{flat_map}
+use Rattle.std.specs.Prelude.{ℕ, if◌then◌else◌, List, [], ◌∷◌, ◌++◌, length, Option, Some, None, option_map}
+use Rattle.std.specs.List.{flat_map, range_with_len}
 use Rattle.rt_policy.specs.declared.expr.Selected.{Selected}
-use Rattle.rt_policy.specs.declared.expr.Selected.TheVariants.{Column as OfColumn}
+use Rattle.rt_policy.specs.declared.expr.Selected.TheVariants.{One, All, Column as OfColumn}
 use Rattle.rt_policy.specs.declared.expr.Expr.{Expr}
 use Rattle.rt_policy.specs.declared.expr.Expr.TheOpen.{Expr-F}
 use Rattle.rt_policy.specs.declared.expr.Expr.TheFolds.{fold-Expr}
@@ -29,9 +29,11 @@ nothing_named = record { columns = λ at. []; readings = [] }
 abbrev pub all_named : List Named → Named
 all_named parts = record { columns = λ at. flat_map (λ p. p.columns at) parts; readings = flat_map (λ p. p.readings) parts }
 
+-- `1` names no column, `*` every one
 abbrev pub named_by_selected : Scope → Reading → Selected → List ℕ
+named_by_selected scope r One = []
+named_by_selected scope r All = range_with_len 0 (length r.table.columns)
 named_by_selected scope r (OfColumn qualifier name) = inner_of (column_found scope (Some r) qualifier name)
-named_by_selected scope r _ = []
 
 abbrev pub named_by_condition : Reading → Option Named → List ℕ
 named_by_condition r None = []

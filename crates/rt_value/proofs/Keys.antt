@@ -1,15 +1,15 @@
 -- Texts in byte order, each once, and elements grouped by such keys.
 use Rattle.std.proofs.Common.{◌≡◌, ℕ, Bool, true, false, ◌||◌, ◌&&◌, not, cond, List, [], ◌∷◌, ◌++◌, refl, sym, ap, ◌∙◌}
-use Rattle.std.specs.Prelude.{⊤}
 use Rattle.std.specs.List.{filter, flat_map, list_any}
 use Rattle.std.specs.Str.{bytes_eq}
-use Rattle.std.specs.Ordering.{nat_cmp, ordering_reverse, is_eq}
+use Rattle.std.specs.Ordering.{nat_cmp, is_eq, eq_by_cmp}
 use Rattle.std.specs.Cmp.Lexicographic.{slice_cmp, nat_list_cmp_total}
 use Rattle.std.specs.declared.cmp.Ordering.{Ordering}
-use Rattle.std.specs.declared.cmp.Ordering.TheVariants.{Less, Equal, Greater}
+use Rattle.std.specs.declared.cmp.Ordering.TheVariants.{Less, Equal}
 use Rattle.std.proofs.lemmas.Map.Text.{is_eq-slice_cmp}
 use Rattle.std.proofs.lemmas.Slice.Eq.{bytes_eq-Decides}
-use Rattle.rt_value.specs.Ordered.{inserted_by, inserted, in_order}
+use Rattle.rt_value.specs.Ordered.{in_order}
+use Rattle.rt_value.proofs.InOrder as order
 use Rattle.rt_value.proofs.Plain.{AllOf, all_weaker, filter_alike, filter_and, all_every}
 use Rattle.rt_value.proofs.Moves.{Moves, then_to, moves_same, moves_back, moves_right, moves_parts}
 
@@ -22,84 +22,34 @@ same k l = bytes_eq k l
 pub tied : (k l : List ℕ) → by_bytes k l ≡ Equal → k ≡ l
 tied k l e = (bytes_eq-Decides k l).0 (sym (is_eq-slice_cmp k l) ∙ ap is_eq e)
 
-pub greater : (k l : List ℕ) → by_bytes k l ≡ Greater → by_bytes l k ≡ Less
-greater k l e = nat_list_cmp_total.antisymm l k ∙ ap ordering_reverse e
-
 pub apart : (k l : List ℕ) → by_bytes k l ≡ Less → same k l ≡ false
 apart k l e = sym (is_eq-slice_cmp k l) ∙ ap is_eq e
 
 abbrev pub Above : List ℕ → List (List ℕ) → Type 0
-Above k ls = AllOf (λ (l : List ℕ). by_bytes k l ≡ Less) ls
+Above k ls = order.Above by_bytes nat_list_cmp_total k ls
 
 abbrev pub Rises : List (List ℕ) → Type 0
-Rises [] = ⊤
-Rises (k ∷ ks) = Above k ks × Rises ks
+Rises ks = order.Rises by_bytes nat_list_cmp_total ks
 
 pub above_less : (k l : List ℕ) (ls : List (List ℕ)) → by_bytes k l ≡ Less → Above l ls → Above k ls
-above_less k l ls e a = all_weaker (λ (m : List ℕ). by_bytes l m ≡ Less) (λ (m : List ℕ). by_bytes k m ≡ Less) ls
-    (λ m f. nat_list_cmp_total.trans k l m e f) a
-
-above_put : (j k l : List ℕ) (ls more : List (List ℕ)) (o : Ordering) → by_bytes j k ≡ Less → Above j (l ∷ ls) → Above j more
-    → Above j (inserted_by by_bytes o k l ls more)
-above_put j k l ls more Less e a m = (e, a)
-above_put j k l ls more Equal e a m = a
-above_put j k l ls more Greater e a m = (a.0, m)
-
-above_inserted : (j k : List ℕ) (ls : List (List ℕ)) → by_bytes j k ≡ Less → Above j ls → Above j (inserted by_bytes k ls)
-above_inserted j k [] e a = (e, tt)
-above_inserted j k (l ∷ ls) e a = above_put j k l ls (inserted by_bytes k ls) (by_bytes k l) e a (above_inserted j k ls e a.1)
-
-put_rises : (k l : List ℕ) (ls : List (List ℕ)) (o : Ordering) → by_bytes k l ≡ o → Rises (l ∷ ls) → Rises (inserted by_bytes k ls)
-    → Rises (inserted_by by_bytes o k l ls (inserted by_bytes k ls))
-put_rises k l ls Less e r m = ((e, above_less k l ls e r.0), r)
-put_rises k l ls Equal e r m = r
-put_rises k l ls Greater e r m = (above_inserted l k ls (greater k l e) r.0, m)
-
-inserted_rises : (k : List ℕ) (ls : List (List ℕ)) → Rises ls → Rises (inserted by_bytes k ls)
-inserted_rises k [] r = (tt, tt)
-inserted_rises k (l ∷ ls) r = put_rises k l ls (by_bytes k l) refl r (inserted_rises k ls r.1)
+above_less k l ls e a = order.above_less by_bytes nat_list_cmp_total k l ls e a
 
 pub ordered_rises : (ks : List (List ℕ)) → Rises (in_order by_bytes ks)
-ordered_rises [] = tt
-ordered_rises (k ∷ ks) = inserted_rises k (in_order by_bytes ks) (ordered_rises ks)
-
--- who stands in it
-
-put_new : (k l : List ℕ) (ls more : List (List ℕ)) (o : Ordering) → by_bytes k l ≡ o → list_any (same k) more ≡ true
-    → list_any (same k) (inserted_by by_bytes o k l ls more) ≡ true
-put_new k l ls more Less e m = ap (λ b. b || list_any (same k) (l ∷ ls)) ((bytes_eq-Decides k k).1 refl)
-put_new k l ls more Equal e m = ap (λ b. b || list_any (same k) ls) ((bytes_eq-Decides k l).1 (tied k l e))
-put_new k l ls more Greater e m = elim (same k l) as (λ b. (b || list_any (same k) more) ≡ true) [ true ↦ refl | false ↦ m ]
-
-inserted_new : (k : List ℕ) (ls : List (List ℕ)) → list_any (same k) (inserted by_bytes k ls) ≡ true
-inserted_new k [] = ap (λ b. b || false) ((bytes_eq-Decides k k).1 refl)
-inserted_new k (l ∷ ls) = put_new k l ls (inserted by_bytes k ls) (by_bytes k l) refl (inserted_new k ls)
-
-or_true : (a b : Bool) → b ≡ true → (a || b) ≡ true
-or_true true b e = refl
-or_true false b e = e
-
-put_old : (j k l : List ℕ) (ls more : List (List ℕ)) (o : Ordering) → (list_any (same j) ls ≡ true → list_any (same j) more ≡ true)
-    → list_any (same j) (l ∷ ls) ≡ true → list_any (same j) (inserted_by by_bytes o k l ls more) ≡ true
-put_old j k l ls more Less f h = or_true (same j k) (list_any (same j) (l ∷ ls)) h
-put_old j k l ls more Equal f h = h
-put_old j k l ls more Greater f h = or_part (same j l) (list_any (same j) ls) (list_any (same j) more) f h where
-  or_part : (a b c : Bool) → (b ≡ true → c ≡ true) → (a || b) ≡ true → (a || c) ≡ true
-  or_part true b c g e = refl
-  or_part false b c g e = g e
-
-inserted_old : (j k : List ℕ) (ls : List (List ℕ)) → list_any (same j) ls ≡ true → list_any (same j) (inserted by_bytes k ls) ≡ true
-inserted_old j k [] h = absurd (cc)
-inserted_old j k (l ∷ ls) h = put_old j k l ls (inserted by_bytes k ls) (by_bytes k l) (inserted_old j k ls) h
+ordered_rises ks = order.in_order_rises by_bytes nat_list_cmp_total ks
 
 abbrev pub IsIn : List (List ℕ) → List ℕ → Type 0
 IsIn ks j = list_any (same j) ks ≡ true
 
+-- what ties is the same
+ties_are : (j : List ℕ) (ks : List (List ℕ)) → list_any (eq_by_cmp by_bytes j) ks ≡ list_any (same j) ks
+ties_are j [] = refl
+ties_are j (k ∷ ks) = ap (λ b. b || list_any (eq_by_cmp by_bytes j) ks) (is_eq-slice_cmp j k) ∙ ap (λ b. same j k || b) (ties_are j ks)
+
 pub ordered_has : (ks : List (List ℕ)) → AllOf (IsIn (in_order by_bytes ks)) ks
-ordered_has [] = tt
-ordered_has (k ∷ ks) =
-    let old = in_order by_bytes ks in
-    (inserted_new k old, all_weaker (IsIn old) (IsIn (inserted by_bytes k old)) ks (λ j h. inserted_old j k old h) (ordered_has ks))
+ordered_has ks =
+    let sorted = in_order by_bytes ks in
+    all_weaker (order.Ties by_bytes nat_list_cmp_total sorted) (IsIn sorted) ks (λ j h. sym (ties_are j sorted) ∙ h)
+    (order.in_order_ties by_bytes nat_list_cmp_total ks)
 
 -- grouped by their keys, elements are the same in another order
 

@@ -3,6 +3,10 @@
 
 ghost use Rattle.std.specs.Prelude.{◌≡◌, ◌≢◌, ◌↔◌, ℕ, true, ◌∷◌, List};
 ghost use Rattle.std.specs.Prelude.{Option, None, Some, option_map};
+ghost use Rattle.std.specs.Prelude.{Contains, IsPermutation};
+ghost use Rattle.std.specs.List.{AllByRecursion, IsDistinct, list_any};
+ghost use Rattle.std.specs.List.Sorted.{IsSorted, IsStrictlySortedBy};
+ghost use Rattle.std.specs.Ordering.{eq_by_cmp};
 ghost use Rattle.std.specs.Cmp.{IsTotalOrder};
 ghost use Rattle.std.specs.declared.cmp.Ordering.{Ordering};
 ghost use Rattle.rt_value.specs.declared.value.Value.{Value};
@@ -11,6 +15,7 @@ ghost use Rattle.rt_value.specs.declared.row.Row.{Row};
 ghost use Rattle.rt_value.specs.declared.edit.Edit.{Edit};
 ghost use Rattle.rt_value.specs.declared.edit.Edit.TheVariants.{Put, Remove, Clear, Nothing};
 ghost use Rattle.rt_value.specs.Order.{compared, value_cmp, key_cmp, same_key};
+ghost use Rattle.rt_value.specs.Ordered.{in_order};
 ghost use Rattle.rt_value.specs.Rows.{is_rising, row_at};
 ghost use Rattle.rt_value.specs.Edits.{TableEdit, filled, old_values, row_after, row_of};
 ghost use Rattle.rt_value.specs.Edits.{edited_rows, tables_after};
@@ -85,4 +90,20 @@ pub fn tables_after_one_more()
 pub fn rows_by_their_keys()
     ensures { (xs ys : List Row) → is_rising xs ≡ true → is_rising ys ≡ true →
         ((key : Key) → row_at key xs ≡ row_at key ys) → xs ≡ ys }
+{}
+
+/// In a total order: the keys in order rise strictly, each is one of the list, and each of the list
+/// ties with one of them. Where no two tie, they are the list sorted.
+pub fn in_order_sorts<K>()
+    ensures rises { (cmp : K → K → Ordering) (keys : List K) → IsTotalOrder cmp →
+        IsStrictlySortedBy cmp (in_order cmp keys) }
+    ensures among { (cmp : K → K → Ordering) (keys : List K) → IsTotalOrder cmp →
+        AllByRecursion (Contains keys) (in_order cmp keys) }
+    ensures each { (cmp : K → K → Ordering) (keys : List K) → IsTotalOrder cmp →
+        AllByRecursion (λ key. list_any (eq_by_cmp cmp key) (in_order cmp keys) ≡ true) keys }
+    ensures permutes { (cmp : K → K → Ordering) (keys : List K) → IsTotalOrder cmp →
+        IsDistinct (eq_by_cmp cmp) keys → IsPermutation keys (in_order cmp keys) }
+    ensures only { (cmp : K → K → Ordering) (keys sorted : List K) → IsTotalOrder cmp →
+        IsDistinct (eq_by_cmp cmp) keys → IsPermutation keys sorted → IsSorted cmp sorted →
+        sorted ≡ in_order cmp keys }
 {}
