@@ -1,4 +1,4 @@
--- Every name that CREATE TABLE's tokens give its tree is UTF-8, where every token keeps a name in UTF-8.
+-- Every name that the tokens of CREATE TABLE and CREATE POLICY give their trees is UTF-8, where every token keeps a name in UTF-8.
 use Rattle.std.proofs.Common.{ℕ, List, [], ◌∷◌, ◌++◌, refl}
 use Rattle.std.specs.Prelude.{⊤, codes, IsUtf8}
 use Rattle.std.specs.List.{AllByRecursion}
@@ -22,9 +22,10 @@ abbrev pub IsReadableItem : Item → Type 0
 IsReadableItem (item.Column name t marks) = IsUtf8 name × IsUtf8 (meaning_of t).shown
 IsReadableItem (item.Key names) = ⊤
 
--- of other statements nothing is said, since they make no table
+-- of other statements nothing is said, since they make no table and no policy
 abbrev pub IsReadableStatement : Statement → Type 0
 IsReadableStatement (statement.Table q items) = IsUtf8 q.schema × IsUtf8 q.name × AllByRecursion IsReadableItem items
+IsReadableStatement (statement.Policy q) = IsUtf8 q.name
 IsReadableStatement _ = ⊤
 
 abbrev pub IsReadablePlaced : Placed → Type 0
@@ -65,7 +66,7 @@ statement_named (g.role _ _ _ _) keep = tt
 statement_named (g.grant _ _ _ _ _ _ _) keep = tt
 statement_named (g.member _ _ _ _ _) keep = tt
 statement_named (g.secure _ _ _) keep = tt
-statement_named (g.policy _ _ _ _ _ _ _ _ _) keep = tt
+statement_named (g.policy {p = q} {x = x} words is _ _ _ _ _ _ _) keep = name_utf8 q.name x is (behind_keywords words keep).0
 
 pub statements_named : {count : ℕ} {before all : List Placed} {xs : List Lexeme} → Statements count before all xs → KeepTexts xs
     → AllByRecursion IsReadablePlaced before → AllByRecursion IsReadablePlaced all
