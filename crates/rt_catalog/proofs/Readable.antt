@@ -2,9 +2,7 @@
 use Rattle.std.proofs.Common.{◌≡◌, ℕ, zero, suc, Bool, true, false, cond, List, [], ◌∷◌, ◌++◌, map, Option, Some, None, Ok, refl, sym, subst, append-nil}
 use Rattle.std.specs.Prelude.{◌==◌, IsUtf8, slice_get, option_map, option_to_list}
 use Rattle.std.specs.List.{AllByRecursion, filter}
-use Rattle.std.specs.declared.cmp.Ordering.{Ordering}
-use Rattle.std.specs.declared.cmp.Ordering.TheVariants.{Less, Equal, Greater}
-use Rattle.rt_value.specs.Ordered.{inserted_by, inserted, in_order}
+use Rattle.rt_value.proofs.Plain.{ordered_all}
 use Rattle.rt_policy.specs.declared.tables.Policy.{Policy}
 use Rattle.rt_policy.specs.declared.tables.TableRules.{TableRules}
 use Rattle.rt_sql.proofs.Kept.{names_kept}
@@ -65,21 +63,6 @@ lists_readable : (file : List Placed) (lists : Lists) → lists_of file ≡ Ok l
 lists_readable file lists e named = statements_keep no_lists lists file (unrefused file lists e).0 (record { tables = tt; policies = tt }) named
 
 -- the policies of a table, in the order of their names
-
-put_all : {K : Type 0} (cmp : K → K → Ordering) (P : K → Type 0) (o : Ordering) (k l : K) (ls more : List K)
-    → P k → AllByRecursion P (l ∷ ls) → AllByRecursion P more → AllByRecursion P (inserted_by cmp o k l ls more)
-put_all cmp P Less k l ls more h a m = (h, a)
-put_all cmp P Equal k l ls more h a m = a
-put_all cmp P Greater k l ls more h a m = (a.0, m)
-
-inserted_all : {K : Type 0} (cmp : K → K → Ordering) (P : K → Type 0) (k : K) (ls : List K) → P k → AllByRecursion P ls
-    → AllByRecursion P (inserted cmp k ls)
-inserted_all cmp P k [] h a = (h, tt)
-inserted_all cmp P k (l ∷ ls) h a = put_all cmp P (cmp k l) k l ls (inserted cmp k ls) h a (inserted_all cmp P k ls h a.1)
-
-ordered_all : {K : Type 0} (cmp : K → K → Ordering) (P : K → Type 0) (ks : List K) → AllByRecursion P ks → AllByRecursion P (in_order cmp ks)
-ordered_all cmp P [] a = tt
-ordered_all cmp P (k ∷ ks) a = inserted_all cmp P k (in_order cmp ks) a.0 (ordered_all cmp P ks a.1)
 
 heirs_readable : (l : Lists) (ps : List TablePolicy) → AllByRecursion IsReadableIn ps → AllByRecursion IsReadableIn (map (policy_with_heirs l) ps)
 heirs_readable l [] a = tt

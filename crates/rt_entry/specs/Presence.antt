@@ -11,7 +11,7 @@ use Rattle.rt_phx.specs.Frame.{message_of_tree, spelled}
 use Rattle.rt_presence.specs.Trees.{Held}
 use Rattle.rt_presence.specs.Reading.{metas_in, after_difference}
 use Rattle.rt_catalog.specs.declared.catalog.Catalog.{Catalog}
-use Rattle.rt_private.specs.Names.{HasReadableTexts}
+use Rattle.rt_catalog.specs.Names.{HasReadableNames}
 use Rattle.rt_entry.specs.declared.input.Input.{Input}
 use Rattle.rt_entry.specs.declared.input.Settings.{Settings}
 use Rattle.rt_entry.specs.declared.input.Step.{Step}
@@ -140,7 +140,7 @@ module _ (c : Catalog) (s : Settings) where
   -- where the catalogue's names are UTF-8 and the changes are those of lines: else a text might be told that can't be read.
   abbrev pub ReadersAgree : Type 0
   ReadersAgree =
-      HasReadableTexts c → s.inputs < 2 ^ 32
+      HasReadableNames c → s.inputs < 2 ^ 32
       → (steps : List Step) (later before : List Input) (ch : Channel) (o : Opening) (read : List ℕ → Option Json)
       → (run c s steps start).journal ≡ later ++ before → AllByRecursion (IsOfLines c) before → IsUpTo c s (run c s steps start) before ch o
       → IsReader (suc payload_levels) read

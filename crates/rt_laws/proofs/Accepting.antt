@@ -25,7 +25,7 @@ use Rattle.rt_phx.specs.Joins.{Asked, Config, config_of}
 use Rattle.rt_phx.specs.Asks.{topic_prefix, name_in, is_channel_topic}
 use Rattle.rt_catalog.specs.declared.catalog.Catalog.{Catalog}
 use Rattle.rt_catalog.specs.Access.{role_named, rules_at}
-use Rattle.rt_private.specs.Names.{IsReadablePolicy, AreReadableRules, HasReadableTexts}
+use Rattle.rt_catalog.specs.Names.{IsReadablePolicy, AreReadableRules, HasReadableNames}
 use Rattle.rt_registry.specs.declared.binding.Binding.{Binding}
 use Rattle.rt_registry.specs.declared.binding.Subscribed.{Subscribed}
 use Rattle.rt_registry.specs.declared.fault.BindingWhy.{BindingWhy}
@@ -193,7 +193,7 @@ bindings_answered c claims bs a =
 
 -- what claims make of a channel
 
-text_utf8 : (c : Catalog) → HasReadableTexts c → (m : Messages) (r : Right) → Maybe IsUtf8 (denial_text c m r)
+text_utf8 : (c : Catalog) → HasReadableNames c → (m : Messages) (r : Right) → Maybe IsUtf8 (denial_text c m r)
 text_utf8 c names m Yes = tt
 text_utf8 c names m NoPrivilege = word (codes "private: no privilege") refl
 text_utf8 c names m NoPolicy = word (codes "private: no policy") refl
@@ -213,7 +213,7 @@ text_utf8 c names m (Restrictive n) =
     named None h = word [] refl
     named (Some t) h = policy (slice_get t.policies n) (got IsReadablePolicy t.policies n h)
 
-denial_utf8 : (c : Catalog) → HasReadableTexts c → (rows : ℕ → List Row) (role : ℕ) (claims : Claims) (name : List ℕ) (use_ : Use)
+denial_utf8 : (c : Catalog) → HasReadableNames c → (rows : ℕ → List Row) (role : ℕ) (claims : Claims) (name : List ℕ) (use_ : Use)
     → Maybe IsUtf8 (denial c rows role claims name use_)
 unfolding denial
 denial_utf8 c names rows role claims name use_ = by (messages_of c)
@@ -226,7 +226,7 @@ told_unless : (o : Option (List ℕ)) → Maybe IsUtf8 o → Told (λ (x : Bool)
 told_unless None h = tt
 told_unless (Some why) h = h
 
-standing_told : (c : Catalog) → HasReadableTexts c → (tables : List (List Row)) (name : List ℕ) (claims : Claims)
+standing_told : (c : Catalog) → HasReadableNames c → (tables : List (List Row)) (name : List ℕ) (claims : Claims)
     → Told StandingFits (standing_for c tables name claims)
 unfolding standing_for
 standing_told c names tables name claims =
@@ -246,7 +246,7 @@ pub record NowFits (now : Now) : Type 0 where
   pub standings : AllOf (λ (h : Member). StandingFits h.standing) now.members
   pub tracks : AllOf TrackFits now.tracks
 
-module _ (c : Catalog) (s : Settings) (names : HasReadableTexts c) (now : Now) (fits : NowFits now) where
+module _ (c : Catalog) (s : Settings) (names : HasReadableNames c) (now : Now) (fits : NowFits now) where
   claims_told : (o : Opening) (token : Option Json) → Told (λ (x : Claims). ⊤) (asked_claims s now o token)
   claims_told o token = told_token (claims_asked s.secret (seconds_of now.moment) o.claims token)
 

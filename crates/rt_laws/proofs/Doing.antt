@@ -24,7 +24,7 @@ use Rattle.rt_phx.specs.declared.message.Posting.{Posting}
 use Rattle.rt_phx.specs.Posts.{channel_topic, posted_payload}
 use Rattle.rt_filter.specs.declared.subscription.Subscription.{Subscription}
 use Rattle.rt_catalog.specs.declared.catalog.Catalog.{Catalog}
-use Rattle.rt_private.specs.Names.{HasReadableTexts}
+use Rattle.rt_catalog.specs.Names.{HasReadableNames}
 use Rattle.rt_change.specs.declared.change.Change.{Change}
 use Rattle.rt_change.specs.Verdicts.{is_truncate}
 use Rattle.rt_change.specs.Shape.{shape_of}
@@ -245,7 +245,7 @@ module _ (now : Now) (fits : NowFits now) where
   track_of_ask : (ch : Channel) (tree : Json) → ChannelFits ch → FitsWithin 62 tree → TrackFits (track_by now ch tree)
   track_of_ask ch tree f h = let small = fits.number in record { reference = omega arith; key = f.key; tree = h }
 
-  module _ (c : Catalog) (s : Settings) (names : HasReadableTexts c) where
+  module _ (c : Catalog) (s : Settings) (names : HasReadableNames c) where
     module _ (tables : List (List Row)) where
       join_fits : (slot : ℕ) (o : Opening) (m : Message) → IsReadable 63 m → AllOf PartFits (join_parts c s now tables slot o m)
       join_fits slot o m is =
@@ -354,7 +354,7 @@ module _ (now : Now) (fits : NowFits now) where
           let ids = map (λ (x : Subscription). x.id) (sub ∷ more) in (
             change_readable to ids (shape_of c sub.role s.max_record ch) v.0 v.1
                 (all_map_of Small IdFits (λ (x : Subscription). x.id) (sub ∷ more) (λ x k. k) a)
-                (shape_fits c names.names sub.role s.max_record ch f),
+                (shape_fits c names sub.role s.max_record ch f),
             tt,
           )
 

@@ -5,11 +5,9 @@ use Rattle.std.specs.Fmt.{decimal}
 use Rattle.std.specs.List.{filter, enumerate_from, list_all}
 use Rattle.std.specs.Str.{bytes_eq}
 use Rattle.std.specs.Ordering.{nat_cmp}
-use Rattle.std.specs.declared.cmp.Ordering.{Ordering}
-use Rattle.std.specs.declared.cmp.Ordering.TheVariants.{Less, Equal, Greater}
 use Rattle.std.specs.Cmp.Lexicographic.{slice_cmp}
-use Rattle.rt_value.specs.Ordered.{inserted_by, inserted, in_order}
-use Rattle.rt_value.proofs.Plain.{AllOf, Maybe, all_append, all_map_of, all_filter}
+use Rattle.rt_value.specs.Ordered.{in_order}
+use Rattle.rt_value.proofs.Plain.{AllOf, Maybe, ordered_all, all_append, all_map_of, all_filter}
 use Rattle.rt_json.specs.declared.tree.Json.{Json, Text}
 use Rattle.rt_json.specs.declared.tree.Json.TheVariants as j
 use Rattle.rt_json.specs.Fits.{FitsWithin}
@@ -68,22 +66,6 @@ pub record TrackFits (t : Track) : Type 0 where
   pub reference : Small t.reference
   pub key : IsUtf8 t.key
   pub tree : FitsWithin 62 t.tree
-
--- lists
-
-module _ {K : Type 0} (cmp : K → K → Ordering) (B : K → Type 0) where
-  put_all : (o : Ordering) (k l : K) (ls more : List K) → B k → AllOf B (l ∷ ls) → AllOf B more → AllOf B (inserted_by cmp o k l ls more)
-  put_all Less k l ls more h a m = (h, a)
-  put_all Equal k l ls more h a m = a
-  put_all Greater k l ls more h a m = (a.0, m)
-
-  inserted_all : (k : K) (ls : List K) → B k → AllOf B ls → AllOf B (inserted cmp k ls)
-  inserted_all k [] h a = (h, tt)
-  inserted_all k (l ∷ ls) h a = put_all (cmp k l) k l ls (inserted cmp k ls) h a (inserted_all k ls h a.1)
-
-  ordered_all : (ks : List K) → AllOf B ks → AllOf B (in_order cmp ks)
-  ordered_all [] a = tt
-  ordered_all (k ∷ ks) a = inserted_all k (in_order cmp ks) a.0 (ordered_all ks a.1)
 
 -- numbers from one on, each with its element
 abbrev pub Numbered : {A : Type 0} → ℕ → (A → Type 0) → ℕ × A → Type 0

@@ -54,7 +54,7 @@ got B (x ∷ xs) (suc n) a = got B xs n a.1
 module _ (c : Catalog) (names : HasReadableNames c) where
   table_readable : (n : ℕ) → IsReadableTable (table_at c n)
   table_readable n =
-      unwrap_of IsReadableTable (slice_get c.tables n) no_table (got IsReadableTable c.tables n names)
+      unwrap_of IsReadableTable (slice_get c.tables n) no_table (got IsReadableTable c.tables n names.tables)
       (record { schema = word [] refl; name = word [] refl; columns = tt })
 
   module _ (role max : ℕ) (ch : Change) (f : ChangeFits ch) where

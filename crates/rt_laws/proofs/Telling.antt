@@ -4,7 +4,7 @@ use Rattle.std.specs.Prelude.{⊤, ◌^◌, ◌==◌, Contains, nat_le, if◌the
 use Rattle.std.specs.List.{filter, filter_map, flat_map, AllByRecursion}
 use Rattle.rt_phx.specs.declared.message.Message.{Message}
 use Rattle.rt_catalog.specs.declared.catalog.Catalog.{Catalog}
-use Rattle.rt_private.specs.Names.{HasReadableTexts}
+use Rattle.rt_catalog.specs.Names.{HasReadableNames}
 use Rattle.rt_entry.specs.declared.input.Input.{Input}
 use Rattle.rt_entry.specs.declared.input.Settings.{Settings}
 use Rattle.rt_entry.specs.declared.story.Channel.{Channel}
@@ -155,7 +155,7 @@ said_is (a.Says m) h = h
 said_is (a.Opened version) h = tt
 said_is (a.Ended name) h = tt
 
-module _ (c : Catalog) (s : Settings) (names : HasReadableTexts c) where
+module _ (c : Catalog) (s : Settings) (names : HasReadableNames c) where
   done_fit : (journal : List Input) (i : Input) → NowFits (now_of (story c s journal)) → InputFits i → AllOf PartFits (done_by c s journal i)
   done_fit journal i f h = doings_fit (now_of (story c s journal)) f c s names (tables_left c (story c s journal) i) i h
 

@@ -3,7 +3,7 @@ use Rattle.std.specs.Prelude.{ℕ, ◌<◌, ◌^◌, List, ◌∷◌, length, Co
 use Rattle.std.specs.List.{AllByRecursion}
 use Rattle.rt_phx.specs.declared.message.Message.{Message}
 use Rattle.rt_catalog.specs.declared.catalog.Catalog.{Catalog}
-use Rattle.rt_private.specs.Names.{HasReadableTexts}
+use Rattle.rt_catalog.specs.Names.{HasReadableNames}
 use Rattle.rt_entry.specs.declared.input.Input.{Input}
 use Rattle.rt_entry.specs.declared.input.Settings.{Settings}
 use Rattle.rt_entry.specs.declared.answer.Answer.TheVariants.{Says}
@@ -14,7 +14,7 @@ module _ (c : Catalog) (s : Settings) where
   -- where the catalogue's names are UTF-8 and each change was bound of a line's record; frames may be any bytes
   abbrev pub AnswersAreReadable : Type 0
   AnswersAreReadable =
-      HasReadableTexts c
+      HasReadableNames c
       → (before : List Input) (i : Input) (slot : ℕ) (m : Message)
       → length before < 2 ^ 64 → AllByRecursion (IsOfLines c) (i ∷ before) → Contains (answers c s before i) (slot, Says m)
       → IsReadable payload_levels m

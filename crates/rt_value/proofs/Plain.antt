@@ -3,6 +3,9 @@ use Rattle.std.proofs.Common.{◌≡◌, ◌⊎◌, Bool, true, false, ◌||◌,
 use Rattle.std.specs.Prelude.{⊤, find}
 use Rattle.std.specs.List.{AllByRecursion, filter, flat_map, list_any}
 use Rattle.rt_value.proofs.Among.{Among}
+use Rattle.std.specs.declared.cmp.Ordering.{Ordering}
+use Rattle.std.specs.declared.cmp.Ordering.TheVariants.{Less, Equal, Greater}
+use Rattle.rt_value.specs.Ordered.{inserted_by, inserted, in_order}
 
 abbrev pub AllOf : {A : Type 0} → (A → Type 0) → List A → Type 0
 AllOf B xs = AllByRecursion B xs
@@ -116,3 +119,19 @@ reverse_short [] h = refl
 reverse_short (x ∷ []) h = refl
 reverse_short (x ∷ y ∷ more) (inl h) = absurd (omega arith)
 reverse_short (x ∷ y ∷ more) (inr h) = absurd (omega arith)
+
+-- in an order
+
+module _ {K : Type 0} (cmp : K → K → Ordering) (B : K → Type 0) where
+  put_all : (o : Ordering) (k l : K) (ls more : List K) → B k → AllOf B (l ∷ ls) → AllOf B more → AllOf B (inserted_by cmp o k l ls more)
+  put_all Less k l ls more h a m = (h, a)
+  put_all Equal k l ls more h a m = a
+  put_all Greater k l ls more h a m = (a.0, m)
+
+  inserted_all : (k : K) (ls : List K) → B k → AllOf B ls → AllOf B (inserted cmp k ls)
+  inserted_all k [] h a = (h, tt)
+  inserted_all k (l ∷ ls) h a = put_all (cmp k l) k l ls (inserted cmp k ls) h a (inserted_all k ls h a.1)
+
+  pub ordered_all : (ks : List K) → AllOf B ks → AllOf B (in_order cmp ks)
+  ordered_all [] a = tt
+  ordered_all (k ∷ ks) a = inserted_all k (in_order cmp ks) a.0 (ordered_all ks a.1)
