@@ -9,14 +9,16 @@ use Rattle.rt_catalog.specs.declared.statement.Login.{Login}
 use Rattle.rt_catalog.specs.declared.statement.Command.{Command}
 use Rattle.rt_catalog.specs.declared.statement.Statement.{Statement}
 use Rattle.rt_catalog.specs.Grammar as g
-use Rattle.rt_catalog.specs.Grammar.{Names, QNames, NameList, Marks, IsItem, Items, Logins, May, Columns, Stance, For, To, Condition, IsStatement}
+use Rattle.rt_catalog.specs.Grammar.{Names, QNames, NameList, Marks, IsItem, Items, Logins, May, Columns, Stance, For}
+use Rattle.rt_catalog.specs.Grammar.{To, Condition, IsStatement}
 use Rattle.rt_catalog.proofs.Phrases.{KeepTexts, behind_keywords, behind_type, behind_table, behind_expr}
 
 behind_names : {before all : List (List ℕ)} {xs ys : List Lexeme} → Names before all xs ys → KeepTexts xs → KeepTexts ys
 behind_names (g.name_last name) keep = keep.1
 behind_names (g.name_more name comma more) keep = behind_names more keep.1.1
 
-behind_tables : {before all : List TableName} {xs ys : List Lexeme} → QNames before all xs ys → KeepTexts xs → KeepTexts ys
+behind_tables : {before all : List TableName} {xs ys : List Lexeme} → QNames before all xs ys → KeepTexts xs
+    → KeepTexts ys
 behind_tables (g.qname_last name) keep = behind_table name keep
 behind_tables (g.qname_more name comma more) keep = behind_tables more (behind_table name keep).1
 
@@ -62,17 +64,21 @@ behind_roles : {all : List (List ℕ)} {xs ys : List Lexeme} → To all xs ys �
 behind_roles g.no_to keep = keep
 behind_roles (g.to words names) keep = behind_names names (behind_keywords words keep)
 
-behind_condition : {words : List (List ℕ)} {e : Option Expr} {xs ys : List Lexeme} → Condition words e xs ys → KeepTexts xs → KeepTexts ys
+behind_condition : {words : List (List ℕ)} {e : Option Expr} {xs ys : List Lexeme} → Condition words e xs ys
+    → KeepTexts xs → KeepTexts ys
 behind_condition g.no_condition keep = keep
 behind_condition (g.condition words left one right) keep = (behind_expr one (behind_keywords words keep).1).1
 
 pub behind_statement : {s : Statement} {xs ys : List Lexeme} → IsStatement s xs ys → KeepTexts xs → KeepTexts ys
-behind_statement (g.table words name left items right) keep = (behind_items items (behind_table name (behind_keywords words keep)).1).1
-behind_statement (g.role words name may logins) keep = behind_logins logins (behind_may may (behind_keywords words keep).1)
+behind_statement (g.table words name left items right) keep =
+    (behind_items items (behind_table name (behind_keywords words keep)).1).1
+behind_statement (g.role words name may logins) keep =
+    behind_logins logins (behind_may may (behind_keywords words keep).1)
 behind_statement (g.grant words selected on may tables to roles) keep =
     behind_names roles (behind_keywords to (behind_tables tables (behind_may may
     (behind_keywords on (behind_columns selected (behind_keywords words keep))))))
-behind_statement (g.member words other groups to roles) keep = behind_names roles (behind_keywords to (behind_names groups (behind_keywords words keep)))
+behind_statement (g.member words other groups to roles) keep =
+    behind_names roles (behind_keywords to (behind_names groups (behind_keywords words keep)))
 behind_statement (g.secure words name more) keep = behind_keywords more (behind_table name (behind_keywords words keep))
 behind_statement (g.policy words name on table stance command roles using check) keep =
     behind_condition check (behind_condition using (behind_roles roles (behind_command command (behind_stance stance

@@ -1,5 +1,6 @@
 -- What looking up by a name finds, and that a number's name leads back to it.
-use Rattle.std.proofs.Common.{◌≡◌, ◌⊎◌, ℕ, zero, suc, ◌+◌, ◌<◌, Bool, true, false, cond, List, [], ◌∷◌, length, Option, Some, None, refl, ap, sym, ◌∙◌, subst, arith, inl, inr}
+use Rattle.std.proofs.Common.{◌≡◌, ℕ, zero, suc, ◌+◌, ◌<◌, Bool, true, false, cond, List, [], ◌∷◌, length, Option, Some}
+use Rattle.std.proofs.Common.{None, refl, ap, sym, ◌∙◌, subst, arith}
 use Rattle.std.specs.Prelude.{slice_get, find, option_map}
 use Rattle.std.specs.List.{AllByRecursion, IsDistinct, enumerate_from}
 use Rattle.std.specs.Str.{bytes_eq}
@@ -10,11 +11,13 @@ use Rattle.rt_catalog.specs.Access.{number_where}
 use Rattle.rt_catalog.specs.Lists.{number_or_none}
 use Rattle.rt_catalog.specs.Sound.{IsWithin}
 
-pub bind_some : {A B : Type 0} (o : Option A) (f : A → Option B) (y : B) → (o >>= f) ≡ Some y → (x : A) × (o ≡ Some x) × (f x ≡ Some y)
+pub bind_some : {A B : Type 0} (o : Option A) (f : A → Option B) (y : B) → (o >>= f) ≡ Some y
+    → (x : A) × (o ≡ Some x) × (f x ≡ Some y)
 bind_some None f y h = absurd (cc)
 bind_some (Some x) f y h = (x, refl, h)
 
-pub all_get : {A : Type 0} (P : A → Type 0) (xs : List A) (n : ℕ) (x : A) → AllByRecursion P xs → slice_get xs n ≡ Some x → P x
+pub all_get : {A : Type 0} (P : A → Type 0) (xs : List A) (n : ℕ) (x : A) → AllByRecursion P xs
+    → slice_get xs n ≡ Some x → P x
 all_get P [] n x all e = absurd (cc)
 all_get P (y ∷ xs) zero x all e = let same : y ≡ x = cc in subst P same all.0
 all_get P (y ∷ xs) (suc n) x all e = all_get P xs n x all.1 e
@@ -30,7 +33,8 @@ abbrev pub found_from : {A : Type 0} → (A → Bool) → ℕ → List A → Opt
 found_from test from xs = find (λ e. test e.1) (enumerate_from from xs)
 
 find_here : {A : Type 0} (test : A → Bool) (from : ℕ) (x : A) (xs : List A) (e : ℕ × A) (b : Bool) → test x ≡ b
-    → (found_from test (from + 1) xs ≡ Some e → IsAt test xs (from + 1) e) → cond b (Some (from, x)) (found_from test (from + 1) xs) ≡ Some e
+    → (found_from test (from + 1) xs ≡ Some e → IsAt test xs (from + 1) e)
+    → cond b (Some (from, x)) (found_from test (from + 1) xs) ≡ Some e
     → IsAt test (x ∷ xs) from e
 find_here {A} test from x xs e true t more k =
     let pair : ℕ × A = (from, x) in
@@ -42,7 +46,8 @@ find_here test from x xs e false t more k =
     let later : e.0 ≡ from + suc is.place = omega (arith, is.behind) in
     record { place = suc is.place; behind = later; at = is.at; passes = is.passes }
 
-find_at : {A : Type 0} (test : A → Bool) (from : ℕ) (xs : List A) (e : ℕ × A) → found_from test from xs ≡ Some e → IsAt test xs from e
+find_at : {A : Type 0} (test : A → Bool) (from : ℕ) (xs : List A) (e : ℕ × A) → found_from test from xs ≡ Some e
+    → IsAt test xs from e
 find_at test from [] e h = absurd (cc)
 find_at test from (x ∷ xs) e h = find_here test from x xs e (test x) refl (find_at test (from + 1) xs e) h
 
@@ -65,25 +70,32 @@ pub number_within : {A : Type 0} (test : A → Bool) (xs : List A) (n : ℕ) →
 number_within test xs n h = let is = number_at test xs n h in slice_get_within xs n is.found is.at
 
 -- where no two are the same, the first that is the same as one is that one
-same_found : {A : Type 0} (same : A → A → Bool) (from : ℕ) (xs : List A) (n : ℕ) (x : A) → IsDistinct same xs → slice_get xs n ≡ Some x → same x x ≡ true
+same_found : {A : Type 0} (same : A → A → Bool) (from : ℕ) (xs : List A) (n : ℕ) (x : A) → IsDistinct same xs
+    → slice_get xs n ≡ Some x → same x x ≡ true
     → find (λ (e : ℕ × A). same e.1 x) (enumerate_from from xs) ≡ Some (from + n, x)
 unfolding IsDistinct
 same_found same from [] n x apart at itself = absurd (cc)
 same_found {A} same from (y ∷ xs) zero x apart at itself =
     let here : y ≡ x = cc in
-    let P : A → Type 0 = λ z. cond (same z x) (Some (from, z)) (find (λ (e : ℕ × A). same e.1 x) (enumerate_from (from + 1) xs)) ≡ Some (from + 0, x) in
+    let P : A → Type 0 = λ z.
+    cond (same z x) (Some (from, z)) (find (λ (e : ℕ × A). same e.1 x) (enumerate_from (from + 1) xs))
+    ≡ Some (from + 0, x) in
     let n : from ≡ from + 0 = omega arith in
-    subst P (sym here) (ap (λ b. cond b (Some (from, x)) (find (λ (e : ℕ × A). same e.1 x) (enumerate_from (from + 1) xs))) itself ∙ ap (λ k. Some (k, x)) n)
+    subst P (sym here) (ap (λ b.
+    cond b (Some (from, x)) (find (λ (e : ℕ × A). same e.1 x) (enumerate_from (from + 1) xs))) itself
+    ∙ ap (λ k. Some (k, x)) n)
 same_found {A} same from (y ∷ xs) (suc n) x apart at itself =
     let differ : same y x ≡ false = all_get (λ z. same y z ≡ false) xs n x apart.0 at in
     let k : (from + 1) + n ≡ from + suc n = omega arith in
     ap (λ b. cond b (Some (from, y)) (find (λ (e : ℕ × A). same e.1 x) (enumerate_from (from + 1) xs))) differ
     ∙ same_found same (from + 1) xs n x apart.1 at itself ∙ ap (λ j. Some (j, x)) k
 
-pub number_back : {A : Type 0} (same : A → A → Bool) (xs : List A) (n : ℕ) (x : A) → IsDistinct same xs → slice_get xs n ≡ Some x → same x x ≡ true
+pub number_back : {A : Type 0} (same : A → A → Bool) (xs : List A) (n : ℕ) (x : A) → IsDistinct same xs
+    → slice_get xs n ≡ Some x → same x x ≡ true
     → number_where (λ y. same y x) xs ≡ Some n
 number_back {A} same xs n x apart at itself =
-    ap (λ (o : Option (ℕ × A)). option_map (λ e. e.0) o) (same_found same 0 xs n x apart at itself) ∙ ap (λ k. Some k) (let z : 0 + n ≡ n = omega arith in z)
+    ap (λ (o : Option (ℕ × A)). option_map (λ e. e.0) o) (same_found same 0 xs n x apart at itself)
+    ∙ ap (λ k. Some k) (let z : 0 + n ≡ n = omega arith in z)
 
 pub equal_bytes : (a b : List ℕ) → bytes_eq a b ≡ true → a ≡ b
 equal_bytes a b = (bytes_eq-Decides a b).0
@@ -99,7 +111,8 @@ module _ {X : Type 0} (name : X → List ℕ) (xs : List X) where
   abbrev pub name_at : Option ℕ → Option (List ℕ)
   name_at c = c >>= λ n. option_map name (slice_get xs n)
 
-  pub named : (o : Option (List ℕ)) (c : Option ℕ) → number_or_none look o ≡ Some c → IsWithin (length xs) c × (name_at c ≡ o)
+  pub named : (o : Option (List ℕ)) (c : Option ℕ) → number_or_none look o ≡ Some c
+      → IsWithin (length xs) c × (name_at c ≡ o)
   named None None h = (tt, refl)
   named None (Some n) h = absurd (cc)
   named (Some text) c h = by (look text) refl h where
@@ -112,10 +125,11 @@ module _ {X : Type 0} (name : X → List ℕ) (xs : List X) where
         let is = number_at (λ x. bytes_eq (name x) text) xs n e in
         let same : Some n ≡ c = cc in
         let named_so : option_map name (slice_get xs n) ≡ Some text =
-            ap (option_map name) is.at ∙ ap (λ t. Some t) (equal_bytes (name is.found) text is.passes) in
+        ap (option_map name) is.at ∙ ap (λ t. Some t) (equal_bytes (name is.found) text is.passes) in
         subst P same (slice_get_within xs n is.found is.at, named_so)
 
-  pub numbered : (c : Option ℕ) → IsDistinct (λ x y. bytes_eq (name x) (name y)) xs → IsWithin (length xs) c → number_or_none look (name_at c) ≡ Some c
+  pub numbered : (c : Option ℕ) → IsDistinct (λ x y. bytes_eq (name x) (name y)) xs → IsWithin (length xs) c
+      → number_or_none look (name_at c) ≡ Some c
   numbered None apart within = refl
   numbered (Some n) apart within = by (slice_get xs n) refl where
     by : (o : Option X) → slice_get xs n ≡ o → number_or_none look (name_at (Some n)) ≡ Some (Some n)

@@ -3,6 +3,7 @@ pub mod ByName
 pub mod Clauses
 pub mod Closed
 pub mod Found
+pub mod Growing
 pub mod Keeping
 pub mod Named
 pub mod Once

@@ -31,7 +31,8 @@ IsReadableStatement _ = ⊤
 abbrev pub IsReadablePlaced : Placed → Type 0
 IsReadablePlaced s = IsReadableStatement s.statement
 
-pub all_push : {A : Type 0} (P : A → Type 0) (xs : List A) (x : A) → AllByRecursion P xs → P x → AllByRecursion P (xs ++ x ∷ [])
+pub all_push : {A : Type 0} (P : A → Type 0) (xs : List A) (x : A) → AllByRecursion P xs → P x
+    → AllByRecursion P (xs ++ x ∷ [])
 all_push P [] x before last = (last, tt)
 all_push P (y ∷ xs) x before last = (before.0, all_push P xs x before.1 last)
 
@@ -43,7 +44,8 @@ type_shown (p.varying words one) keep = ascii_utf8 (codes "varchar") refl
 type_shown (p.named {name = name} {array = array} {x = x} is lengths ends) keep =
     array_shown array (meaning_of_name name) (name_shown name (name_utf8 name x is keep.0))
 
-table_named : {schema name : List ℕ} {xs ys : List Lexeme} → IsTableName IsName schema name xs ys → KeepTexts xs → IsUtf8 schema × IsUtf8 name
+table_named : {schema name : List ℕ} {xs ys : List Lexeme} → IsTableName IsName schema name xs ys → KeepTexts xs
+    → IsUtf8 schema × IsUtf8 name
 table_named (p.in_public {name = name} {x = x} is) keep = (ascii_utf8 (codes "public") refl, name_utf8 name x is keep.0)
 table_named (p.in_schema {schema = schema} {name = name} {x = x} {y = y} first dot second) keep =
     (name_utf8 schema x first keep.0, name_utf8 name y second keep.1.1.0)
@@ -52,9 +54,11 @@ item_named : {i : Item} {xs ys : List Lexeme} → IsItem i xs ys → KeepTexts x
 item_named (g.key words names) keep = tt
 item_named (g.column {n = n} {x = x} is type marks) keep = (name_utf8 n x is keep.0, type_shown type keep.1)
 
-items_named : {before all : List Item} {xs ys : List Lexeme} → Items before all xs ys → KeepTexts xs → AllByRecursion IsReadableItem before
+items_named : {before all : List Item} {xs ys : List Lexeme} → Items before all xs ys → KeepTexts xs
+    → AllByRecursion IsReadableItem before
     → AllByRecursion IsReadableItem all
-items_named (g.item_last {i = i} {before = before} one) keep so_far = all_push IsReadableItem before i so_far (item_named one keep)
+items_named (g.item_last {i = i} {before = before} one) keep so_far =
+    all_push IsReadableItem before i so_far (item_named one keep)
 items_named (g.item_more {i = i} {before = before} one comma more) keep so_far =
     items_named more (behind_item one keep).1 (all_push IsReadableItem before i so_far (item_named one keep))
 
@@ -68,8 +72,10 @@ statement_named (g.member _ _ _ _ _) keep = tt
 statement_named (g.secure _ _ _) keep = tt
 statement_named (g.policy {p = q} {x = x} words is _ _ _ _ _ _ _) keep = name_utf8 q.name x is (behind_keywords words keep).0
 
-pub statements_named : {count : ℕ} {before all : List Placed} {xs : List Lexeme} → Statements count before all xs → KeepTexts xs
+pub statements_named : {count : ℕ} {before all : List Placed} {xs : List Lexeme} → Statements count before all xs
+    → KeepTexts xs
     → AllByRecursion IsReadablePlaced before → AllByRecursion IsReadablePlaced all
 statements_named g.file_end keep so_far = so_far
 statements_named {count = count} (g.file_more {before = before} {s = s} {xs = xs} one ends semicolon more) keep so_far =
-    statements_named more (behind_statement one keep).1 (all_push IsReadablePlaced before (placed count xs s) so_far (statement_named one keep))
+    statements_named more (behind_statement one keep).1
+    (all_push IsReadablePlaced before (placed count xs s) so_far (statement_named one keep))

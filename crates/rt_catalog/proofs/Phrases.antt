@@ -8,7 +8,9 @@ use Rattle.rt_policy.specs.declared.expr.TypeName.{TypeName}
 use Rattle.rt_policy.specs.declared.expr.Selected.{Selected}
 use Rattle.rt_policy.specs.declared.expr.Expr.{Expr}
 use Rattle.rt_policy.specs.Grammar as g
-use Rattle.rt_policy.specs.Grammar.{Keywords, Length, Lengths, Brackets, IsType, IsLiteral, IsAuth, IsCall, IsColumn, IsTableName, IsSelected, IsAlias, IsExpr, Ors, IsConjunction, Ands, IsNegation, TestedBy, Related, Items, IsOperand, Where}
+use Rattle.rt_policy.specs.Grammar.{Keywords, Length, Lengths, Brackets, IsType, IsLiteral, IsAuth, IsCall, IsColumn}
+use Rattle.rt_policy.specs.Grammar.{IsTableName, IsSelected, IsAlias, IsExpr, Ors, IsConjunction, Ands, IsNegation}
+use Rattle.rt_policy.specs.Grammar.{TestedBy, Related, Items, IsOperand, Where}
 
 abbrev pub KeepTexts : List Lexeme → Type 0
 KeepTexts xs = AllByRecursion KeepsText xs

@@ -28,9 +28,11 @@ record AreReadable (l : Lists) : Type 0 where
   tables : AllByRecursion IsReadableTable l.tables
   policies : AllByRecursion IsReadableIn l.policies
 
-columns_readable : (items : List Item) → AllByRecursion IsReadableItem items → AllByRecursion IsReadableColumn (columns_of items)
+columns_readable : (items : List Item) → AllByRecursion IsReadableItem items
+    → AllByRecursion IsReadableColumn (columns_of items)
 columns_readable [] named = tt
-columns_readable (item.Column name t marks ∷ items) named = (record { name = named.0.0; shown = named.0.1 }, columns_readable items named.1)
+columns_readable (item.Column name t marks ∷ items) named =
+    (record { name = named.0.0; shown = named.0.1 }, columns_readable items named.1)
 columns_readable (item.Key names ∷ items) named = columns_readable items named.1
 
 policy_keeps : (l : Lists) (at : ℕ) (p : PolicyText) (o : Option ℕ) → AllByRecursion IsReadableIn l.policies → IsUtf8 p.name

@@ -1,5 +1,6 @@
 -- The catalogue of a text, and why a text has none.
-use Rattle.std.specs.Prelude.{◌≡◌, ℕ, ◌==◌, ◌≤◌, ◌<◌, List, map, length, count_by, slice_get, Some, option_map, unwrap_or, Ok, Err, IsUtf8}
+use Rattle.std.specs.Prelude.{◌≡◌, ℕ, ◌==◌, ◌≤◌, ◌<◌, List, map, length, count_by, slice_get, Some, option_map}
+use Rattle.std.specs.Prelude.{unwrap_or, Ok, Err, IsUtf8}
 use Rattle.std.specs.List.{list_any, filter, range_with_len}
 use Rattle.std.specs.Str.Lossy.{utf8_valid_len}
 use Rattle.std.specs.Ordering.{nat_cmp}

@@ -1,5 +1,6 @@
 -- What the closed lists say by memberships, and that without these they say what is written.
-use Rattle.std.specs.Prelude.{◌≡◌, ◌⊎◌, ◌↔◌, ℕ, ◌==◌, Bool, true, false, ◌&&◌, List, [], map, slice_get, Option, Some, None}
+use Rattle.std.specs.Prelude.{◌≡◌, ◌⊎◌, ◌↔◌, ℕ, ◌==◌, Bool, true, false, ◌&&◌, List, [], map, slice_get, Option, Some}
+use Rattle.std.specs.Prelude.{None}
 use Rattle.std.specs.List.{list_any, filter}
 use Rattle.rt_value.specs.Ordered.{in_order}
 use Rattle.rt_policy.specs.declared.tables.TableRules.{TableRules}
@@ -25,11 +26,13 @@ was_granted l role table column = list_any (is_row_for role table column) l.gran
 -- PUBLIC was granted it, or some role that the role is under
 abbrev pub IsGranted : Lists → ℕ → ℕ → ℕ → Type 0
 IsGranted l role table column =
-    (was_granted l None table column ≡ true) ⊎ ((other : ℕ) × IsUnder l role other × (was_granted l (Some other) table column ≡ true))
+    (was_granted l None table column ≡ true)
+    ⊎ ((other : ℕ) × IsUnder l role other × (was_granted l (Some other) table column ≡ true))
 
 -- exactly then the role may SELECT the column
 abbrev pub ClosedSelects : Type 0
-ClosedSelects = (l : Lists) (role table column : ℕ) → (lists_permit (closed l) role table column ≡ true) ↔ IsGranted l role table column
+ClosedSelects = (l : Lists) (role table column : ℕ)
+    → (lists_permit (closed l) role table column ≡ true) ↔ IsGranted l role table column
 
 abbrev pub Selectable : Type 0
 Selectable =
@@ -52,7 +55,8 @@ abbrev pub PoliciesAreClosed : Type 0
 PoliciesAreClosed =
     (text : List ℕ) (c : Catalog) (is : IsCatalogue text c) (table : ℕ) (rules : TableRules) →
     slice_get c.rules.tables table ≡ Some rules →
-    rules.policies ≡ in_order name_cmp (map (λ p. (policy_with_heirs is.lists p).policy) (filter (λ p. p.table == table) is.lists.policies))
+    rules.policies ≡ in_order name_cmp
+    (map (λ p. (policy_with_heirs is.lists p).policy) (filter (λ p. p.table == table) is.lists.policies))
 
 abbrev pub is_membership : Statement → Bool
 is_membership (statement.Member groups roles) = true
@@ -64,4 +68,5 @@ ClosedIsWritten = (l : Lists) → l.memberships ≡ [] → closed l ≡ l
 
 abbrev pub TextsAreClosed : Type 0
 TextsAreClosed =
-    (text : List ℕ) (c : Catalog) (is : IsCatalogue text c) → list_any (λ s. is_membership s.statement) is.file ≡ false → closed is.lists ≡ is.lists
+    (text : List ℕ) (c : Catalog) (is : IsCatalogue text c) → list_any (λ s. is_membership s.statement) is.file ≡ false
+    → closed is.lists ≡ is.lists

@@ -1,6 +1,7 @@
 -- The grammar of the catalogue's statements (PostgreSQL, "SQL Commands": CREATE TABLE, CREATE ROLE, GRANT, ALTER TABLE, CREATE POLICY). Each
 -- phrase leads from tokens to tokens: xs is the phrase, read as the tree, and then ys.
-use Rattle.std.specs.Prelude.{◌≡◌, ℕ, ◌-◌, Bool, true, false, ◌||◌, not, is_some, List, [], ◌∷◌, ◌++◌, codes, length, Option, Some, None}
+use Rattle.std.specs.Prelude.{◌≡◌, ℕ, ◌-◌, Bool, true, false, ◌||◌, not, is_some, List, [], ◌∷◌, ◌++◌, codes, length}
+use Rattle.std.specs.Prelude.{Option, Some, None}
 use Rattle.rt_sql.specs.Lexeme.{Lexeme, IsName, IsKeyword, IsSign}
 use Rattle.rt_policy.specs.declared.expr.Expr.{Expr}
 use Rattle.rt_policy.specs.declared.expr.TypeName.{TypeName}

@@ -1,6 +1,7 @@
--- The six lists that statements mean (PostgreSQL, "SQL Commands"): tables, roles, grant rows, secured tables, policies and memberships.
--- Statements are taken in order, and each finds the lists that those before it left.
-use Rattle.std.specs.Prelude.{ℕ, ◌==◌, ◌+◌, Bool, true, false, ◌&&◌, not, if◌then◌else◌, List, [], ◌∷◌, ◌++◌, map, length, codes, slice_get, Option, Some, None, option_map, unwrap_or, option_to_list}
+-- The six lists that statements mean (PostgreSQL, "SQL Commands"): tables, roles, grant rows, secured tables, policies
+-- and memberships. Statements are taken in order, and each finds the lists that those before it left.
+use Rattle.std.specs.Prelude.{ℕ, ◌==◌, ◌+◌, Bool, true, false, ◌&&◌, not, if◌then◌else◌, List, [], ◌∷◌, ◌++◌, map}
+use Rattle.std.specs.Prelude.{length, codes, slice_get, Option, Some, None, option_map, unwrap_or, option_to_list}
 use Rattle.std.specs.List.{list_any, filter, filter_map, flat_map}
 use Rattle.std.specs.Str.{bytes_eq}
 use Rattle.rt_value.specs.Choice.{◌>>=◌, is_at}
@@ -75,7 +76,8 @@ numbers_of look xs = filter_map look xs
 
 -- CREATE TABLE
 abbrev pub column_in : Item → Option Column
-column_in (item.Column name t marks) = Some (record { name = name; kind = (meaning_of t).kind; shown = (meaning_of t).shown })
+column_in (item.Column name t marks) =
+    Some (record { name = name; kind = (meaning_of t).kind; shown = (meaning_of t).shown })
 column_in (item.Key names) = None
 
 abbrev pub is_key_mark : Mark → Bool
@@ -102,7 +104,8 @@ key_of q items = numbers_of (column_number (bare_table q items)) (flat_map (λ k
 abbrev pub table_of : TableName → List Item → Table
 table_of q items = record (bare_table q items) { key = key_of q items }
 
--- CREATE ROLE: of BYPASSRLS and NOBYPASSRLS, and of INHERIT and NOINHERIT, the last counts; without either a role doesn't bypass, and inherits
+-- CREATE ROLE: of BYPASSRLS and NOBYPASSRLS, and of INHERIT and NOINHERIT, the last counts; without either a role
+-- doesn't bypass, and inherits
 abbrev pub bypass_after : Bool → List Login → Bool
 bypass_after before [] = before
 bypass_after before (BypassRls ∷ more) = bypass_after true more
@@ -116,12 +119,17 @@ inherits_after before (NoInherit ∷ more) = inherits_after false more
 inherits_after before (l ∷ more) = inherits_after before more
 
 abbrev pub role_of : List ℕ → List Login → ListedRole
-role_of name logins = record { role = record { name = name; bypass = bypass_after false logins }; inherits = inherits_after true logins }
+role_of name logins =
+    record {
+      role = record { name = name; bypass = bypass_after false logins };
+      inherits = inherits_after true logins;
+    }
 
 -- Of rows each once, the first of those that are the same, behind those before.
 abbrev pub each_once : {A : Type 0} → (A → A → Bool) → List A → List A → List A
 each_once same before [] = before
-each_once same before (x ∷ more) = each_once same (elim (list_any (same x) before) [ true ↦ before | false ↦ before ++ x ∷ [] ]) more
+each_once same before (x ∷ more) =
+    each_once same (elim (list_any (same x) before) [ true ↦ before | false ↦ before ++ x ∷ [] ]) more
 
 -- the rows of a statement that don't stand yet, each once; by their names, known or not
 abbrev pub new_rows : {A : Type 0} → (A → Bool) → (A → A → Bool) → List A → List A
@@ -140,7 +148,8 @@ same_option same _ _ = false
 
 abbrev pub same_row : GrantRow → GrantRow → Bool
 same_row a b =
-    bytes_eq a.table.schema b.table.schema && bytes_eq a.table.name b.table.name && same_option bytes_eq a.column b.column && same_option bytes_eq a.role b.role
+    bytes_eq a.table.schema b.table.schema && bytes_eq a.table.name b.table.name
+    && same_option bytes_eq a.column b.column && same_option bytes_eq a.role b.role
 
 abbrev pub columns_or_whole : List (List ℕ) → List (Option (List ℕ))
 columns_or_whole [] = None ∷ []
@@ -149,9 +158,12 @@ columns_or_whole names = map Some names
 abbrev pub role_or_public : List ℕ → Option (List ℕ)
 role_or_public name = if is_public name then None else Some name
 
+abbrev pub row_with : TableName → Option (List ℕ) → List ℕ → GrantRow
+row_with t c r = record { table = t; column = c; role = role_or_public r }
+
 abbrev pub rows_of : List (List ℕ) → List TableName → List (List ℕ) → List GrantRow
 rows_of columns tables roles =
-    flat_map (λ t. flat_map (λ c. map (λ r. record { table = t; column = c; role = role_or_public r }) roles) (columns_or_whole columns)) tables
+    flat_map (λ t. flat_map (λ c. map (row_with t c) roles) (columns_or_whole columns)) tables
 
 abbrev pub number_or_none : {A : Type 0} → (A → Option ℕ) → Option A → Option (Option ℕ)
 number_or_none look None = Some None
@@ -226,7 +238,12 @@ with_number n ns = elim (list_any (λ m. m == n) ns) [ true ↦ ns | false ↦ n
 -- CREATE POLICY
 abbrev pub view_of_table : Table → TableView
 view_of_table t =
-    record { schema = t.schema; name = t.name; columns = map (λ c. record { name = c.name; kind = c.kind }) t.columns; keyed = not (length t.key == 0) }
+    record {
+      schema = t.schema;
+      name = t.name;
+      columns = map (λ c. record { name = c.name; kind = c.kind }) t.columns;
+      keyed = not (length t.key == 0);
+    }
 
 abbrev pub scope_of : Lists → ℕ → Scope
 scope_of l table = record { table = table; tables = map view_of_table l.tables }
@@ -248,7 +265,13 @@ policy_of l table at p =
     let scope = scope_of l table in
     record {
       table = table;
-      policy = record { name = p.name; restrictive = p.restrictive; selects = selects p.command; roles = policy_roles l p.roles; judge = p.using >>= judge_of scope };
+      policy = record {
+        name = p.name;
+        restrictive = p.restrictive;
+        selects = selects p.command;
+        roles = policy_roles l p.roles;
+        judge = p.using >>= judge_of scope;
+      };
       readings = flat_map (readings_of scope) (expressions_of p);
       at = at;
     }
@@ -260,7 +283,11 @@ with_table l t = record l { tables = l.tables ++ t ∷ [] }
 abbrev pub after_statement : Lists → ℕ → Statement → Lists
 after_statement l at (statement.Table q items) = with_table l (table_of q items)
 after_statement l at (statement.Role name logins) = record l { roles = l.roles ++ role_of name logins ∷ [] }
-after_statement l at (statement.Grant columns tables roles) = record l { grants = grants_with l (rows_of columns tables roles) }
-after_statement l at (statement.Member groups roles) = record l { memberships = memberships_with l (member_rows groups roles) }
-after_statement l at (statement.Secure q) = record l { secured = unwrap_or (option_map (λ n. with_number n l.secured) (table_number l q)) l.secured }
-after_statement l at (statement.Policy p) = record l { policies = l.policies ++ option_to_list (option_map (λ n. policy_of l n at p) (table_number l p.table)) }
+after_statement l at (statement.Grant columns tables roles) =
+    record l { grants = grants_with l (rows_of columns tables roles) }
+after_statement l at (statement.Member groups roles) =
+    record l { memberships = memberships_with l (member_rows groups roles) }
+after_statement l at (statement.Secure q) =
+    record l { secured = unwrap_or (option_map (λ n. with_number n l.secured) (table_number l q)) l.secured }
+after_statement l at (statement.Policy p) =
+    record l { policies = l.policies ++ option_to_list (option_map (λ n. policy_of l n at p) (table_number l p.table)) }

@@ -1,6 +1,8 @@
--- Why a statement is refused by the lists that it finds, and why a file is: the first reason in the order limit, unknown name, twice, opaque key,
--- type, ring of members; and of the whole file ring of policies, then hidden column.
-use Rattle.std.specs.Prelude.{ℕ, ◌==◌, ◌+◌, nat_lt, Bool, true, false, ◌&&◌, ◌||◌, not, List, [], ◌∷◌, ◌++◌, map, length, slice_get, find, Option, Some, None, option_map, unwrap_or, is_some, is_none, Result, Ok, Err}
+-- Why a statement is refused by the lists that it finds, and why a file is: the first reason in the order limit,
+-- unknown name, twice, opaque key, type, ring of members; and of the whole file ring of policies, then hidden column.
+use Rattle.std.specs.Prelude.{ℕ, ◌==◌, ◌+◌, nat_lt, Bool, true, false, ◌&&◌, ◌||◌, not, List, [], ◌∷◌, ◌++◌, map}
+use Rattle.std.specs.Prelude.{length, slice_get, find, Option, Some, None, option_map, unwrap_or, is_some, is_none}
+use Rattle.std.specs.Prelude.{Result, Ok, Err}
 use Rattle.std.specs.List.{list_any, list_all, flat_map, range_with_len}
 use Rattle.std.specs.Str.{bytes_eq}
 use Rattle.rt_value.specs.declared.value.Kind.{Kind}
@@ -23,7 +25,10 @@ use Rattle.rt_catalog.specs.declared.statement.Statement.TheVariants as statemen
 use Rattle.rt_catalog.specs.Grammar.{Placed}
 use Rattle.rt_catalog.specs.Access.{permits}
 use Rattle.rt_catalog.specs.Rings.{leads, through}
-use Rattle.rt_catalog.specs.Lists.{Lists, TablePolicy, no_lists, table_number, role_number, column_number, is_public, is_table, columns_of, key_clauses, key_of, bare_table, rows_of, grant_of, grant_count, member_rows, memberships_with, membership_count, scope_of, expressions_of, after_statement}
+use Rattle.rt_catalog.specs.Lists.{Lists, TablePolicy, no_lists, table_number, role_number, column_number, is_public}
+use Rattle.rt_catalog.specs.Lists.{is_table, columns_of, key_clauses, key_of, bare_table, rows_of, grant_of}
+use Rattle.rt_catalog.specs.Lists.{grant_count, member_rows, memberships_with, membership_count, scope_of}
+use Rattle.rt_catalog.specs.Lists.{expressions_of, after_statement}
 use Rattle.rt_catalog.specs.Memberships.{every_role, has_own_member, closed}
 
 abbrev pub table_limit : ℕ
@@ -92,7 +97,11 @@ refused_table l q items = first_why (
     ∷ over (length (columns_of items)) column_limit
     ∷ long_names (names_of_table q ++ flat_map names_of_item items)
     ∷ (has_unknown_key q items, why.UnknownName)
-    ∷ (list_any (is_table q) l.tables || comes_twice (column_names items) || nat_lt 1 (length (key_clauses items)) || list_any comes_twice (key_clauses items), why.Twice)
+    ∷ (
+      list_any (is_table q) l.tables || comes_twice (column_names items) || nat_lt 1 (length (key_clauses items))
+          || list_any comes_twice (key_clauses items),
+      why.Twice,
+    )
     ∷ (has_opaque_key q items, why.OpaqueKey)
     ∷ [])
 
@@ -139,13 +148,15 @@ is_mistyped _ = false
 
 -- some expression of the policy resolves so, on the policy's table where that is known
 abbrev pub resolves_so : (Result Judge ExprFault → Bool) → Lists → PolicyText → Bool
-resolves_so test l p = is_at (λ n. list_any (λ e. test (resolved (scope_of l n) e)) (expressions_of p)) (table_number l p.table)
+resolves_so test l p =
+    is_at (λ n. list_any (λ e. test (resolved (scope_of l n) e)) (expressions_of p)) (table_number l p.table)
 
 abbrev pub has_unknown_role : Lists → List (List ℕ) → Bool
 has_unknown_role l names = list_any (λ n. not (is_public n) && is_none (role_number l n)) names
 
 abbrev pub has_policy : Lists → TableName → List ℕ → Bool
-has_policy l q name = is_at (λ n. list_any (λ p. (p.table == n) && bytes_eq p.policy.name name) l.policies) (table_number l q)
+has_policy l q name =
+    is_at (λ n. list_any (λ p. (p.table == n) && bytes_eq p.policy.name name) l.policies) (table_number l q)
 
 abbrev pub refused_policy : Lists → PolicyText → Option Why
 refused_policy l p = first_why (
@@ -182,7 +193,8 @@ column_numbers l table = range_with_len 0 (unwrap_or (option_map (λ t. length t
 -- the role may not SELECT a column that the subquery names of the table, or no column of it at all
 abbrev pub hides : Lists → TableReading → ℕ → Bool
 hides l r role =
-    not (list_all (lists_permit l role r.table) r.columns) || not (list_any (lists_permit l role r.table) (column_numbers l r.table))
+    not (list_all (lists_permit l role r.table) r.columns)
+    || not (list_any (lists_permit l role r.table) (column_numbers l r.table))
 
 abbrev pub role_numbers : Lists → Option (List ℕ) → List ℕ
 role_numbers l None = every_role l
@@ -195,7 +207,8 @@ bypasses_in l role = is_at (λ r. r.role.bypass) (slice_get l.roles role)
 abbrev pub has_hidden_column : Lists → TablePolicy → Bool
 has_hidden_column l p =
     p.policy.selects
-    && list_any (λ role. not (bypasses_in l role) && list_any (λ r. hides l r role) p.readings) (role_numbers l p.policy.roles)
+    && list_any (λ role. not (bypasses_in l role) && list_any (λ r. hides l r role) p.readings)
+    (role_numbers l p.policy.roles)
 
 -- the number of a statement's first token, and the reason
 abbrev pub Refusal : Type 0
@@ -206,7 +219,9 @@ first_policy test reason l = option_map (λ p. (p.at, reason)) (find test l.poli
 
 -- hidden columns are asked of the closed lists
 abbrev pub refused_file : Lists → Option Refusal
-refused_file l = or_else (first_policy (is_in_ring l) why.Ring l) (first_policy (has_hidden_column (closed l)) why.HiddenColumn (closed l))
+refused_file l =
+    or_else (first_policy (is_in_ring l) why.Ring l)
+    (first_policy (has_hidden_column (closed l)) why.HiddenColumn (closed l))
 
 abbrev pub refused_at : ℕ → Why → Result Lists Refusal
 refused_at at reason = Err (at, reason)
@@ -215,7 +230,10 @@ refused_at at reason = Err (at, reason)
 abbrev pub lists_after : Lists → List Placed → Result Lists Refusal
 lists_after l [] = Ok l
 lists_after l (s ∷ more) =
-    elim (refused_statement l s.statement) [ Some reason ↦ refused_at s.at reason | None ↦ lists_after (after_statement l s.at s.statement) more ]
+    elim (refused_statement l s.statement) [
+      | Some reason ↦ refused_at s.at reason
+      | None ↦ lists_after (after_statement l s.at s.statement) more
+    ]
 
 abbrev pub lists_or : Lists → Option Refusal → Result Lists Refusal
 lists_or l None = Ok l

@@ -16,11 +16,13 @@ through steps (suc n) t u = through steps n t u || (through steps n t n && throu
 -- where every step is from a number below n, the two agree
 abbrev pub PathsAreComputed : Type 0
 PathsAreComputed =
-    (steps : ℕ → ℕ → Bool) (n : ℕ) → ((t u : ℕ) → steps t u ≡ true → t < n) → (t u : ℕ) → (through steps n t u ≡ true) ↔ Path steps t u
+    (steps : ℕ → ℕ → Bool) (n : ℕ) → ((t u : ℕ) → steps t u ≡ true → t < n) → (t u : ℕ) →
+    (through steps n t u ≡ true) ↔ Path steps t u
 
 -- a table leads to another where a policy for ALL or SELECT on it has an EXISTS on the other
 abbrev pub leads : List TablePolicy → ℕ → ℕ → Bool
-leads policies t u = list_any (λ p. (p.table == t) && p.policy.selects && list_any (λ r. r.table == u) p.readings) policies
+leads policies t u =
+    list_any (λ p. (p.table == t) && p.policy.selects && list_any (λ r. r.table == u) p.readings) policies
 
 -- the table of a policy for ALL or SELECT leads to itself
 pub record IsInRing (policies : List TablePolicy) (p : TablePolicy) : Type 0 where

@@ -30,5 +30,5 @@ column_of text at = bytes_in_line (reverse (take at text)) + 1
 -- how much is written, before anything is inherited
 abbrev pub check_line : Lists → List ℕ
 check_line l =
-    codes "tables " ++ decimal (length l.tables) ++ codes " roles " ++ decimal (length l.roles) ++ codes " grants " ++ decimal (length l.grants)
-    ++ codes " policies " ++ decimal (length l.policies)
+    codes "tables " ++ decimal (length l.tables) ++ codes " roles " ++ decimal (length l.roles)
+    ++ codes " grants " ++ decimal (length l.grants) ++ codes " policies " ++ decimal (length l.policies)

@@ -1,6 +1,7 @@
--- What holds of all lists that statements leave, none of which is refused: names are apart, numbers are within their lists, rows stand once, no
--- limit is passed, and no role is a member of itself.
-use Rattle.std.specs.Prelude.{◌≡◌, ◌↔◌, ℕ, ◌==◌, ◌<◌, ◌≤◌, Bool, ◌&&◌, List, length, slice_get, Contains, true, Option, Some, None, Ok}
+-- What holds of all lists that statements leave, none of which is refused: names are apart, numbers are within their
+-- lists, rows stand once, no limit is passed, and no role is a member of itself.
+use Rattle.std.specs.Prelude.{◌≡◌, ◌↔◌, ℕ, ◌==◌, ◌<◌, ◌≤◌, Bool, ◌&&◌, List, length, slice_get, Contains, true, Option}
+use Rattle.std.specs.Prelude.{Some, None, Ok}
 use Rattle.std.specs.List.{AllByRecursion, IsDistinct}
 use Rattle.std.specs.Str.{bytes_eq}
 use Rattle.rt_catalog.specs.declared.catalog.Table.{Table}
@@ -9,9 +10,11 @@ use Rattle.rt_catalog.specs.declared.catalog.Grant.{Grant}
 use Rattle.rt_catalog.specs.declared.catalog.Membership.{Membership}
 use Rattle.rt_catalog.specs.Grammar.{Placed}
 use Rattle.rt_catalog.specs.Rings.{Path, IsInRing}
-use Rattle.rt_catalog.specs.Lists.{Lists, ListedRole, TablePolicy, no_lists, is_number, same_grant, same_membership, member_rows, memberships_with}
+use Rattle.rt_catalog.specs.Lists.{Lists, ListedRole, TablePolicy, no_lists, is_number, same_grant, same_membership}
+use Rattle.rt_catalog.specs.Lists.{member_rows, memberships_with}
 use Rattle.rt_catalog.specs.Memberships.{joins, has_own_member}
-use Rattle.rt_catalog.specs.Refusals.{table_limit, column_limit, role_limit, grant_limit, policy_limit, membership_limit, is_in_ring, lists_after}
+use Rattle.rt_catalog.specs.Refusals.{table_limit, column_limit, role_limit, grant_limit, policy_limit}
+use Rattle.rt_catalog.specs.Refusals.{membership_limit, is_in_ring, lists_after}
 
 abbrev pub same_table : Table → Table → Bool
 same_table t u = bytes_eq t.schema u.schema && bytes_eq t.name u.name

@@ -5,7 +5,8 @@ ghost use Rattle.rt_catalog.specs.Rings.{PathsAreComputed};
 ghost use Rattle.rt_catalog.specs.Memberships.{UnderIsComputed};
 ghost use Rattle.rt_catalog.specs.Sound.{ListsAreSound, RingsArePaths, MemberRingsArePaths};
 ghost use Rattle.rt_catalog.specs.Kept.{GrantsAreNamed, MembershipsAreNamed, GrantsByName};
-ghost use Rattle.rt_catalog.specs.Closing.{ClosedSelects, Selectable, ClosedApplies, PoliciesAreClosed, ClosedIsWritten, TextsAreClosed};
+ghost use Rattle.rt_catalog.specs.Closing.{ClosedSelects, Selectable, ClosedApplies};
+ghost use Rattle.rt_catalog.specs.Closing.{PoliciesAreClosed, ClosedIsWritten, TextsAreClosed};
 
 /// The names of a catalogue that was read from a text are UTF-8: schema and name of each table, and
 /// name and shown type of each of its columns.
@@ -18,14 +19,15 @@ pub fn paths_are_computed()
     ensures { PathsAreComputed }
 {}
 
-/// The rings that are refused are paths: from a policy's table to itself, and from a role to itself.
+/// The rings that are refused are paths: from a policy's table to itself, and from a role to
+/// itself.
 pub fn rings_are_paths()
     ensures tables { RingsArePaths }
     ensures roles { MemberRingsArePaths }
 {}
 
-/// Of all lists that statements leave, none of which is refused: names are apart, numbers are within
-/// their lists, rows stand once, no limit is passed, and no role is a member of itself.
+/// Of all lists that statements leave, none of which is refused: names are apart, numbers are
+/// within their lists, rows stand once, no limit is passed, and no role is a member of itself.
 pub fn lists_are_sound()
     ensures { ListsAreSound }
 {}

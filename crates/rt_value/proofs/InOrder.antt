@@ -1,4 +1,5 @@
--- What `in_order` makes by a total order: it rises, and holds what ties with the elements. Where no two tie, it is the sorted list.
+-- What `in_order` makes by a total order: it rises, and holds what ties with the elements. Where no two tie, it is the
+-- sorted list.
 use Rattle.std.proofs.Common.{◌≡◌, ◌⊎◌, ℕ, suc, ◌+◌, true, false, List, [], ◌∷◌}
 use Rattle.std.proofs.Common.{refl, ap, sym, ◌∙◌, subst, arith, inl, inr}
 use Rattle.std.specs.Prelude.{⊤, IsPermutation}
@@ -62,7 +63,8 @@ module _ {K : Type 0} (cmp : K → K → Ordering) (total : IsTotalOrder cmp) wh
   strictly (k ∷ ks) r = (r.0, strictly ks r.1)
 
   -- who stands in it
-  put_among : (k l : K) (ls more : List K) (o : Ordering) (y : K) → (Among more y → (k ≡ y) ⊎ Among ls y) → Among (inserted_by cmp o k l ls more) y
+  put_among : (k l : K) (ls more : List K) (o : Ordering) (y : K) → (Among more y → (k ≡ y) ⊎ Among ls y)
+      → Among (inserted_by cmp o k l ls more) y
       → (k ≡ y) ⊎ Among (l ∷ ls) y
   put_among k l ls more Less y f h = h
   put_among k l ls more Equal y f h = inr h
@@ -75,14 +77,17 @@ module _ {K : Type 0} (cmp : K → K → Ordering) (total : IsTotalOrder cmp) wh
 
   pub in_order_among : (ks : List K) (y : K) → Among (in_order cmp ks) y → Among ks y
   in_order_among [] y h = h
-  in_order_among (k ∷ ks) y h = elim (inserted_among k (in_order cmp ks) y h) [ inl e ↦ inl e | inr a ↦ inr (in_order_among ks y a) ]
+  in_order_among (k ∷ ks) y h =
+      elim (inserted_among k (in_order cmp ks) y h) [ inl e ↦ inl e | inr a ↦ inr (in_order_among ks y a) ]
 
   -- and what ties with each element
   abbrev pub Ties : List K → K → Type 0
   Ties ls k = list_any (eq_by_cmp cmp k) ls ≡ true
 
-  put_new : (k l : K) (ls more : List K) (o : Ordering) → cmp k l ≡ o → Ties more k → Ties (inserted_by cmp o k l ls more) k
-  put_new k l ls more Less e m = or_left (eq_by_cmp cmp k k) (list_any (eq_by_cmp cmp k) (l ∷ ls)) (ap is_eq (tied_itself total k))
+  put_new : (k l : K) (ls more : List K) (o : Ordering) → cmp k l ≡ o → Ties more k
+      → Ties (inserted_by cmp o k l ls more) k
+  put_new k l ls more Less e m =
+      or_left (eq_by_cmp cmp k k) (list_any (eq_by_cmp cmp k) (l ∷ ls)) (ap is_eq (tied_itself total k))
   put_new k l ls more Equal e m = or_left (eq_by_cmp cmp k l) (list_any (eq_by_cmp cmp k) ls) (ap is_eq e)
   put_new k l ls more Greater e m = or_right (eq_by_cmp cmp k l) (list_any (eq_by_cmp cmp k) more) m
 
@@ -90,7 +95,8 @@ module _ {K : Type 0} (cmp : K → K → Ordering) (total : IsTotalOrder cmp) wh
   inserted_new k [] = or_left (eq_by_cmp cmp k k) false (ap is_eq (tied_itself total k))
   inserted_new k (l ∷ ls) = put_new k l ls (inserted cmp k ls) (cmp k l) refl (inserted_new k ls)
 
-  put_old : (j k l : K) (ls more : List K) (o : Ordering) → (Ties ls j → Ties more j) → Ties (l ∷ ls) j → Ties (inserted_by cmp o k l ls more) j
+  put_old : (j k l : K) (ls more : List K) (o : Ordering) → (Ties ls j → Ties more j) → Ties (l ∷ ls) j
+      → Ties (inserted_by cmp o k l ls more) j
   put_old j k l ls more Less f h = or_right (eq_by_cmp cmp j k) (list_any (eq_by_cmp cmp j) (l ∷ ls)) h
   put_old j k l ls more Equal f h = h
   put_old j k l ls more Greater f h =
@@ -106,18 +112,24 @@ module _ {K : Type 0} (cmp : K → K → Ordering) (total : IsTotalOrder cmp) wh
   pub in_order_ties : (ks : List K) → AllByRecursion (Ties (in_order cmp ks)) ks
   in_order_ties [] = tt
   in_order_ties (k ∷ ks) =
-      let old = in_order cmp ks in
-      (inserted_new k old, all_weaker (Ties old) (Ties (inserted cmp k old)) ks (λ j h. inserted_old j k old h) (in_order_ties ks))
+      let old = in_order cmp ks in (
+        inserted_new k old,
+        all_weaker (Ties old) (Ties (inserted cmp k old)) ks (λ j h. inserted_old j k old h)
+            (in_order_ties ks),
+      )
 
   -- where no two tie, the same elements in another order
-  put_moves : (k l : K) (ls : List K) (o : Ordering) → cmp k l ≡ o → eq_by_cmp cmp k l ≡ false → Moves (k ∷ ls) (inserted cmp k ls)
+  put_moves : (k l : K) (ls : List K) (o : Ordering) → cmp k l ≡ o → eq_by_cmp cmp k l ≡ false
+      → Moves (k ∷ ls) (inserted cmp k ls)
       → Moves (k ∷ l ∷ ls) (inserted_by cmp o k l ls (inserted cmp k ls))
   put_moves k l ls Less e f m = moves.none (k ∷ l ∷ ls)
   put_moves k l ls Equal e f m = absurd (let z : true ≡ false = sym (ap is_eq e) ∙ f in cc)
   put_moves k l ls Greater e f m =
-      moves.then_to (k ∷ l ∷ ls) (l ∷ k ∷ ls) (l ∷ inserted cmp k ls) (moves.swap k l ls) (moves.skip l (k ∷ ls) (inserted cmp k ls) m)
+      moves.then_to (k ∷ l ∷ ls) (l ∷ k ∷ ls) (l ∷ inserted cmp k ls) (moves.swap k l ls)
+      (moves.skip l (k ∷ ls) (inserted cmp k ls) m)
 
-  inserted_moves : (k : K) (ls : List K) → AllByRecursion (λ l. eq_by_cmp cmp k l ≡ false) ls → Moves (k ∷ ls) (inserted cmp k ls)
+  inserted_moves : (k : K) (ls : List K) → AllByRecursion (λ l. eq_by_cmp cmp k l ≡ false) ls
+      → Moves (k ∷ ls) (inserted cmp k ls)
   inserted_moves k [] a = moves.none (k ∷ [])
   inserted_moves k (l ∷ ls) a = put_moves k l ls (cmp k l) refl a.0 (inserted_moves k ls a.1)
 
@@ -130,8 +142,10 @@ module _ {K : Type 0} (cmp : K → K → Ordering) (total : IsTotalOrder cmp) wh
   in_order_moves [] d = moves.none []
   in_order_moves (k ∷ ks) d =
       let old = in_order cmp ks in
-      let differ = all_of (λ l. eq_by_cmp cmp k l ≡ false) old (λ y h. all_among (λ l. eq_by_cmp cmp k l ≡ false) ks y d.0 (in_order_among ks y h)) in
-      moves.then_to (k ∷ ks) (k ∷ old) (inserted cmp k old) (moves.skip k ks old (in_order_moves ks d.1)) (inserted_moves k old differ)
+      let differ = all_of (λ l. eq_by_cmp cmp k l ≡ false) old
+      (λ y h. all_among (λ l. eq_by_cmp cmp k l ≡ false) ks y d.0 (in_order_among ks y h)) in
+      moves.then_to (k ∷ ks) (k ∷ old) (inserted cmp k old) (moves.skip k ks old (in_order_moves ks d.1))
+      (inserted_moves k old differ)
 
   pub in_order_permuted : (ks : List K) → IsDistinct (eq_by_cmp cmp) ks → IsPermutation ks (in_order cmp ks)
   in_order_permuted ks d = permuted ks (in_order cmp ks) (in_order_moves ks d)
@@ -176,7 +190,8 @@ module _ {K : Type 0} (cmp : K → K → Ordering) (total : IsTotalOrder cmp) wh
       let P : K → Type 0 = λ k. cmp x k ≡ Less in
       let z : Less ≡ Equal = sym (subst P (sym e) less) ∙ tied_itself total x in cc
 
-  one_list : (ys zs : List K) → Rises ys → Rises zs → ((y : K) → Among ys y → Among zs y) → ((y : K) → Among zs y → Among ys y) → ys ≡ zs
+  one_list : (ys zs : List K) → Rises ys → Rises zs → ((y : K) → Among ys y → Among zs y)
+      → ((y : K) → Among zs y → Among ys y) → ys ≡ zs
   one_list [] [] r s f g = refl
   one_list [] (z ∷ zs) r s f g = absurd (g z (inl refl))
   one_list (x ∷ xs) [] r s f g = absurd (f x (inl refl))
@@ -188,7 +203,8 @@ module _ {K : Type 0} (cmp : K → K → Ordering) (total : IsTotalOrder cmp) wh
       λ i. e i ∷ tails i
 
   -- so a sorted permutation is that list
-  pub in_order_only : (ks ys : List K) → IsDistinct (eq_by_cmp cmp) ks → IsPermutation ks ys → IsSorted cmp ys → ys ≡ in_order cmp ks
+  pub in_order_only : (ks ys : List K) → IsDistinct (eq_by_cmp cmp) ks → IsPermutation ks ys → IsSorted cmp ys
+      → ys ≡ in_order cmp ks
   in_order_only ks ys d p s =
       let apart = IsDistinct-IsPermutation (eq_by_cmp cmp) (eq_by_cmp_equiv total).symm ks ys p d in
       let sorted = in_order cmp ks in

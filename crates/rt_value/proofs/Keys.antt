@@ -43,7 +43,8 @@ IsIn ks j = list_any (same j) ks ≡ true
 -- what ties is the same
 ties_are : (j : List ℕ) (ks : List (List ℕ)) → list_any (eq_by_cmp by_bytes j) ks ≡ list_any (same j) ks
 ties_are j [] = refl
-ties_are j (k ∷ ks) = ap (λ b. b || list_any (eq_by_cmp by_bytes j) ks) (is_eq-slice_cmp j k) ∙ ap (λ b. same j k || b) (ties_are j ks)
+ties_are j (k ∷ ks) =
+    ap (λ b. b || list_any (eq_by_cmp by_bytes j) ks) (is_eq-slice_cmp j k) ∙ ap (λ b. same j k || b) (ties_are j ks)
 
 pub ordered_has : (ks : List (List ℕ)) → AllOf (IsIn (in_order by_bytes ks)) ks
 ordered_has ks =
