@@ -5,7 +5,8 @@ use Rattle.rt_policy.specs.Grammar as g
 use Rattle.rt_catalog.specs.Grammar as c
 use Rattle.rt_catalog.specs.Refusals.{lists_of}
 use Rattle.rt_examples.specs.Statements.{lists_in}
-use Rattle.rt_examples.specs.Memberships.{members_file, bypass_file, MembersSelect, MemberRingIsRefused, OwnMemberIsRefused, PublicIsNoMember, BypassStays, QuotedIsAGroup}
+use Rattle.rt_examples.specs.Memberships.{members_file, bypass_file, MembersSelect, MemberRingIsRefused}
+use Rattle.rt_examples.specs.Memberships.{OwnMemberIsRefused, PublicIsNoMember, BypassStays, QuotedIsAGroup}
 
 pub members_select_holds : MembersSelect
 unfolding lists_of digits

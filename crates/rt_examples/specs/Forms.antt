@@ -1,5 +1,5 @@
 -- Expressions of the examples, level by level, so that a fold over one computes.
-use Rattle.std.proofs.Common.{◌≡◌, ℕ, List, [], ◌∷◌, Option, Some, None, sym, ap, ◌∙◌}
+use Rattle.std.proofs.Common.{◌≡◌, ℕ, List, [], ◌∷◌, Option, Some, sym, ap, ◌∙◌}
 use Rattle.rt_policy.specs.declared.expr.Expr.{Expr}
 use Rattle.rt_policy.specs.declared.expr.Expr.TheVariants as expr
 use Rattle.rt_policy.specs.declared.expr.Expr.TheOpen.{Expr-F}
@@ -27,12 +27,14 @@ module _ (A : Type 0) (step : Expr-F A → A) where
   folded (column qualifier name) = step (Expr-F.Column qualifier name)
   folded (equal a b) = step (Expr-F.Compare Equal (folded a) (folded b))
   folded (both a b) = step (Expr-F.And (folded a ∷ folded b ∷ []))
-  folded (exists what schema table alias condition) = step (Expr-F.Exists what schema table alias (Some (folded condition)))
+  folded (exists what schema table alias condition) =
+      step (Expr-F.Exists what schema table alias (Some (folded condition)))
 
   pub fold_is : (f : Form) → fold-Expr A step (expr_of f) ≡ folded f
   fold_is uid = ap (fold-Expr A step) (sym expr.rolls-Uid) ∙ fold-roll-Expr A step Expr-F.Uid
   fold_is (column qualifier name) =
-      ap (fold-Expr A step) (sym (expr.rolls-Column qualifier name)) ∙ fold-roll-Expr A step (Expr-F.Column qualifier name)
+      ap (fold-Expr A step) (sym (expr.rolls-Column qualifier name))
+      ∙ fold-roll-Expr A step (Expr-F.Column qualifier name)
   fold_is (equal a b) =
       ap (fold-Expr A step) (sym (expr.rolls-Compare Equal (expr_of a) (expr_of b)))
       ∙ fold-roll-Expr A step (Expr-F.Compare Equal (expr_of a) (expr_of b))

@@ -1,5 +1,6 @@
--- A role may do what the roles may that it is a member of, but for one that was made with NOINHERIT. Rings of members are refused.
-use Rattle.std.specs.Prelude.{◌≡◌, ℕ, List, [], ◌∷◌, ◌++◌, true, false, codes, None, Some, Ok, Err}
+-- A role may do what the roles may that it is a member of, but for one that was made with NOINHERIT. Rings of members
+-- are refused.
+use Rattle.std.specs.Prelude.{◌≡◌, ℕ, List, [], ◌∷◌, ◌++◌, true, false, codes, Ok, Err}
 use Rattle.rt_sql.specs.declared.lexeme.TokenKind.TheVariants.{Word, Quoted}
 use Rattle.rt_sql.specs.Lexeme.{Lexeme}
 use Rattle.rt_catalog.specs.declared.fault.Why.TheVariants.{Ring, UnknownName}
@@ -19,9 +20,11 @@ use Rattle.rt_examples.specs.Statements.{in_public, type_named, at}
 abbrev pub notes_table : Statement
 notes_table =
     statement.Table (in_public (codes "notes"))
-    (item.Column (codes "id") (type_named (codes "int4")) (PrimaryKey ∷ []) ∷ item.Column (codes "body") (type_named (codes "text")) [] ∷ [])
+    (item.Column (codes "id") (type_named (codes "int4")) (PrimaryKey ∷ [])
+    ∷ item.Column (codes "body") (type_named (codes "text")) [] ∷ [])
 
--- .. create role base; create role app; create role guest noinherit; grant select on notes to base; grant base to app, guest;
+-- .. create role base; create role app; create role guest noinherit; grant select on notes to base;
+-- grant base to app, guest;
 abbrev pub members_file : List Placed
 members_file =
     at 0 notes_table ∷ at 13 (statement.Role (codes "base") []) ∷ at 17 (statement.Role (codes "app") [])
@@ -41,16 +44,20 @@ MembersSelect = (l : Lists) × (lists_of members_file ≡ Ok l) × AreMembers l
 
 -- .. grant app to base;
 abbrev pub MemberRingIsRefused : Type 0
-MemberRingIsRefused = lists_of (members_file ++ at 40 (statement.Member (codes "app" ∷ []) (codes "base" ∷ [])) ∷ []) ≡ Err (40, Ring)
+MemberRingIsRefused = lists_of (members_file ++ at 40 (statement.Member (codes "app" ∷ []) (codes "base" ∷ [])) ∷ [])
+    ≡ Err (40, Ring)
 
 -- create role a; grant a to a;
 abbrev pub OwnMemberIsRefused : Type 0
-OwnMemberIsRefused = lists_of (at 0 (statement.Role (codes "a") []) ∷ at 4 (statement.Member (codes "a" ∷ []) (codes "a" ∷ [])) ∷ []) ≡ Err (4, Ring)
+OwnMemberIsRefused = lists_of
+    (at 0 (statement.Role (codes "a") []) ∷ at 4 (statement.Member (codes "a" ∷ []) (codes "a" ∷ [])) ∷ [])
+    ≡ Err (4, Ring)
 
 -- create role a; grant a to public;
 abbrev pub PublicIsNoMember : Type 0
 PublicIsNoMember =
-    lists_of (at 0 (statement.Role (codes "a") []) ∷ at 4 (statement.Member (codes "a" ∷ []) (codes "public" ∷ [])) ∷ []) ≡ Err (4, UnknownName)
+    lists_of (at 0 (statement.Role (codes "a") []) ∷ at 4 (statement.Member (codes "a" ∷ []) (codes "public" ∷ []))
+    ∷ []) ≡ Err (4, UnknownName)
 
 -- create role a bypassrls; create role b; grant a to b;
 abbrev pub bypass_file : List Placed
@@ -60,7 +67,8 @@ bypass_file =
 
 -- BYPASSRLS isn't inherited
 abbrev pub BypassStays : Type 0
-BypassStays = (l : Lists) × (lists_of bypass_file ≡ Ok l) × (bypasses_in (closed l) 0 ≡ true) × (bypasses_in (closed l) 1 ≡ false)
+BypassStays = (l : Lists) × (lists_of bypass_file ≡ Ok l) × (bypasses_in (closed l) 0 ≡ true)
+    × (bypasses_in (closed l) 1 ≡ false)
 
 abbrev pub word : List ℕ → Lexeme
 word bytes = record { kind = Word; bytes = bytes }
@@ -69,4 +77,5 @@ word bytes = record { kind = Word; bytes = bytes }
 abbrev pub QuotedIsAGroup : Type 0
 QuotedIsAGroup =
     IsStatement (statement.Member (codes "select" ∷ []) (codes "a" ∷ []))
-    (word (codes "grant") ∷ record { kind = Quoted; bytes = codes "\"select\"" } ∷ word (codes "to") ∷ word (codes "a") ∷ []) []
+    (word (codes "grant") ∷ record { kind = Quoted; bytes = codes "\"select\"" } ∷ word (codes "to") ∷ word (codes "a")
+    ∷ []) []

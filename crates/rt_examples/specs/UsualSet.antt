@@ -1,20 +1,18 @@
--- What the statements of a usual set mean: a policy that reads another table, for a role that may. And what is refused of the whole file: a ring
--- of policies, and a hidden column.
-use Rattle.std.specs.Prelude.{◌≡◌, ℕ, List, [], ◌∷◌, ◌++◌, map, true, false, codes, Option, Some, None, Result, Ok, Err}
+-- What the statements of a usual set mean: a policy that reads another table, for a role that may. And what is refused
+-- of the whole file: a ring of policies, and a hidden column.
+use Rattle.std.specs.Prelude.{◌≡◌, ℕ, List, [], ◌∷◌, ◌++◌, map, false, codes, Option, Some, None, Ok, Err}
 use Rattle.rt_policy.specs.declared.expr.Expr.{Expr}
 use Rattle.rt_policy.specs.declared.expr.Expr.TheVariants as expr
 use Rattle.rt_policy.specs.declared.expr.Selected.{Selected}
 use Rattle.rt_policy.specs.declared.expr.Selected.TheVariants as selected
 use Rattle.rt_policy.specs.declared.judge.Comparison.TheVariants.{Equal}
 use Rattle.rt_policy.specs.declared.judge.Judge.TheVariants as judge
-use Rattle.rt_policy.specs.Readings.{TableReading}
 use Rattle.rt_catalog.specs.declared.fault.Why.TheVariants.{Ring, HiddenColumn}
 use Rattle.rt_catalog.specs.declared.statement.Command.{Command}
 use Rattle.rt_catalog.specs.declared.statement.Command.TheVariants as command
 use Rattle.rt_catalog.specs.declared.statement.Item.TheVariants as item
 use Rattle.rt_catalog.specs.declared.statement.Login.TheVariants.{NoLogin, BypassRls}
 use Rattle.rt_catalog.specs.declared.statement.Mark.TheVariants.{NotNull, PrimaryKey}
-use Rattle.rt_catalog.specs.declared.statement.PolicyText.{PolicyText}
 use Rattle.rt_catalog.specs.declared.statement.Statement.{Statement}
 use Rattle.rt_catalog.specs.declared.statement.Statement.TheVariants as statement
 use Rattle.rt_catalog.specs.Grammar.{Placed}
@@ -58,14 +56,17 @@ members_read_rooms =
 abbrev pub rooms_table : Statement
 rooms_table =
     statement.Table (in_public (codes "rooms"))
-    (item.Column (codes "id") (type_named (codes "uuid")) (PrimaryKey ∷ []) ∷ item.Column (codes "title") (type_named (codes "text")) (NotNull ∷ [])
-    ∷ item.Column (codes "meta") (type_named (codes "jsonb")) [] ∷ item.Column (codes "created_at") (type_named (codes "timestamptz")) [] ∷ [])
+    (item.Column (codes "id") (type_named (codes "uuid")) (PrimaryKey ∷ [])
+    ∷ item.Column (codes "title") (type_named (codes "text")) (NotNull ∷ [])
+    ∷ item.Column (codes "meta") (type_named (codes "jsonb")) []
+    ∷ item.Column (codes "created_at") (type_named (codes "timestamptz")) [] ∷ [])
 
 -- create table members (room_id uuid, user_id uuid, primary key (room_id, user_id));
 abbrev pub members_table : Statement
 members_table =
     statement.Table (in_public (codes "members"))
-    (item.Column (codes "room_id") (type_named (codes "uuid")) [] ∷ item.Column (codes "user_id") (type_named (codes "uuid")) []
+    (item.Column (codes "room_id") (type_named (codes "uuid")) []
+    ∷ item.Column (codes "user_id") (type_named (codes "uuid")) []
     ∷ item.Key (codes "room_id" ∷ codes "user_id" ∷ []) ∷ [])
 
 abbrev pub every_role : List (List ℕ)
@@ -77,16 +78,23 @@ every_role = codes "anon" ∷ codes "authenticated" ∷ codes "service_role" ∷
 abbrev pub usual_tables : List Placed
 usual_tables =
     at 0 rooms_table ∷ at 21 members_table ∷ at 40 (statement.Role (codes "anon") (NoLogin ∷ []))
-    ∷ at 45 (statement.Role (codes "authenticated") (NoLogin ∷ [])) ∷ at 50 (statement.Role (codes "service_role") (NoLogin ∷ BypassRls ∷ []))
+    ∷ at 45 (statement.Role (codes "authenticated") (NoLogin ∷ []))
+    ∷ at 50 (statement.Role (codes "service_role") (NoLogin ∷ BypassRls ∷ []))
     ∷ at 56 (statement.Grant [] (in_public (codes "rooms") ∷ in_public (codes "members") ∷ []) every_role)
     ∷ at 69 (statement.Secure (in_public (codes "rooms"))) ∷ at 77 (statement.Secure (in_public (codes "members"))) ∷ []
 
--- create policy "own memberships" on members for select to authenticated using (..);
 -- create policy "members read rooms" on rooms for select to authenticated using (..);
+abbrev pub last_policy : List Placed
+last_policy =
+    at 108 (policy_on (codes "members read rooms") (codes "rooms") command.Select (codes "authenticated" ∷ [])
+    members_read_rooms) ∷ []
+
+-- create policy "own memberships" on members for select to authenticated using (..); ..
 abbrev pub usual_policies : List Placed
 usual_policies =
-    at 85 (policy_on (codes "own memberships") (codes "members") command.Select (codes "authenticated" ∷ []) own_memberships)
-    ∷ at 108 (policy_on (codes "members read rooms") (codes "rooms") command.Select (codes "authenticated" ∷ []) members_read_rooms) ∷ []
+    at 85 (policy_on (codes "own memberships") (codes "members") command.Select
+    (codes "authenticated" ∷ []) own_memberships)
+    ∷ last_policy
 
 -- the judges, and what the subqueries read: the first of its members' columns twice, and the other
 abbrev pub IsUsual : Lists → Type 0
@@ -94,7 +102,8 @@ IsUsual l =
     (check_line l ≡ codes "tables 2 roles 3 grants 6 policies 2")
     × (map (λ p. p.policy.judge) l.policies
     ≡ Some (judge.Compare Equal judge.Uid (judge.Outer 1))
-    ∷ Some (judge.Exists 1 (judge.And (judge.Compare Equal (judge.Inner 0) (judge.Outer 0) ∷ judge.Compare Equal (judge.Inner 1) judge.Uid ∷ []))) ∷ [])
+    ∷ Some (judge.Exists 1 (judge.And
+    (judge.Compare Equal (judge.Inner 0) (judge.Outer 0) ∷ judge.Compare Equal (judge.Inner 1) judge.Uid ∷ []))) ∷ [])
     × (map (λ p. p.readings) l.policies ≡ [] ∷ (record { table = 1; columns = 0 ∷ 1 ∷ [] } ∷ []) ∷ [])
 
 abbrev pub UsualSetIsRead : Type 0
@@ -102,7 +111,8 @@ UsualSetIsRead = (l : Lists) × (lists_of (usual_tables ++ usual_policies) ≡ O
 
 -- create table .. (id int4 primary key);
 abbrev pub keyed_table : List ℕ → Statement
-keyed_table name = statement.Table (in_public name) (item.Column (codes "id") (type_named (codes "int4")) (PrimaryKey ∷ []) ∷ [])
+keyed_table name = statement.Table (in_public name)
+    (item.Column (codes "id") (type_named (codes "int4")) (PrimaryKey ∷ []) ∷ [])
 
 -- exists (select 1 from t where t.id = u.id)
 abbrev pub same_id : List ℕ → List ℕ → Expr
@@ -112,12 +122,13 @@ same_id t u = exists_in selected.One t None (expr.Compare Equal (column_of t (co
 abbrev pub ring_tables : List Placed
 ring_tables = at 0 (keyed_table (codes "a")) ∷ at 10 (keyed_table (codes "b")) ∷ []
 
--- create policy p on a using (exists (select 1 from b where b.id = a.id));
 -- create policy q on b using (exists (select 1 from a where a.id = b.id));
+abbrev pub ring_end : List Placed
+ring_end = at 44 (policy_on (codes "q") (codes "b") command.All [] (same_id (codes "a") (codes "b"))) ∷ []
+
+-- create policy p on a using (exists (select 1 from b where b.id = a.id)); ..
 abbrev pub ring_policies : List Placed
-ring_policies =
-    at 20 (policy_on (codes "p") (codes "a") command.All [] (same_id (codes "b") (codes "a")))
-    ∷ at 44 (policy_on (codes "q") (codes "b") command.All [] (same_id (codes "a") (codes "b"))) ∷ []
+ring_policies = at 20 (policy_on (codes "p") (codes "a") command.All [] (same_id (codes "b") (codes "a"))) ∷ ring_end
 
 -- at the third line
 abbrev pub RingIsRefused : Type 0
@@ -128,7 +139,8 @@ RingIsRefused = lists_of (ring_tables ++ ring_policies) ≡ Err (20, Ring)
 abbrev pub hidden_tables : List Placed
 hidden_tables =
     at 0 (keyed_table (codes "a"))
-    ∷ at 10 (statement.Table (in_public (codes "b")) (item.Column (codes "id") (type_named (codes "int4")) (PrimaryKey ∷ [])
+    ∷ at 10 (statement.Table (in_public (codes "b"))
+    (item.Column (codes "id") (type_named (codes "int4")) (PrimaryKey ∷ [])
     ∷ item.Column (codes "secret") (type_named (codes "text")) [] ∷ []))
     ∷ at 23 (statement.Role (codes "reader") [])
     ∷ at 27 (statement.Grant [] (in_public (codes "a") ∷ []) (codes "reader" ∷ []))
@@ -136,7 +148,8 @@ hidden_tables =
 
 -- exists (select .. from b where b.id = a.id)
 abbrev pub reads_b : Selected → Expr
-reads_b what = exists_in what (codes "b") None (expr.Compare Equal (column_of (codes "b") (codes "id")) (column_of (codes "a") (codes "id")))
+reads_b what = exists_in what (codes "b") None
+    (expr.Compare Equal (column_of (codes "b") (codes "id")) (column_of (codes "a") (codes "id")))
 
 -- create policy p on a to reader using (..);
 abbrev pub reader_policy : Selected → List Placed

@@ -2,8 +2,11 @@
 #![tactic(auto)]
 
 ghost use Rattle.rt_examples.specs.Statements.{StatementsMeanLists, OpaqueKeyIsRefused, SecondRoleIsRefused, PublicIsNoRole, UnknownColumnIsRefused};
-ghost use Rattle.rt_examples.specs.UsualSet.{UsualSetIsRead, RingIsRefused, HiddenColumnIsRefused, OneHidesNothing};
-ghost use Rattle.rt_examples.specs.Memberships.{MembersSelect, MemberRingIsRefused, OwnMemberIsRefused, PublicIsNoMember, BypassStays, QuotedIsAGroup};
+ghost use Rattle.rt_examples.specs.UsualSet.{UsualSetIsRead, RingIsRefused};
+ghost use Rattle.rt_examples.specs.UsualSet.{HiddenColumnIsRefused, OneHidesNothing};
+ghost use Rattle.rt_examples.specs.Memberships.{MembersSelect, BypassStays, QuotedIsAGroup};
+ghost use Rattle.rt_examples.specs.Memberships.{MemberRingIsRefused, OwnMemberIsRefused};
+ghost use Rattle.rt_examples.specs.Memberships.{PublicIsNoMember};
 ghost use Rattle.rt_examples.specs.Vectors.{TagIsKnown, TokenHasNoRole, TokenExpires, UnsignedIsRefused, TwoPartsAreNoToken};
 ghost use Rattle.rt_examples.specs.Frames.{ChannelsAreLimited, FramesAreAnswered, JoinsAreRefused};
 ghost use Rattle.rt_examples.specs.Errors.{ErrorsAreSent, HiddenKeyIsAnError};
@@ -120,7 +123,8 @@ pub fn statements()
     ensures unknown_column { UnknownColumnIsRefused }
 {}
 
-/// What a usual set's statements mean, a ring of policies, and a hidden column: `select *` names every column of its table.
+/// What a usual set's statements mean, a ring of policies, and a hidden column: `select *` names
+/// every column of its table.
 pub fn usual_set()
     ensures read { UsualSetIsRead }
     ensures ring { RingIsRefused }
@@ -128,7 +132,8 @@ pub fn usual_set()
     ensures one { OneHidesNothing }
 {}
 
-/// Members may SELECT what their group may, but for a role that was made with NOINHERIT; rings of members are refused.
+/// Members may SELECT what their group may, but for a role that was made with NOINHERIT; rings of
+/// members are refused.
 pub fn memberships()
     ensures select { MembersSelect }
     ensures ring { MemberRingIsRefused }
