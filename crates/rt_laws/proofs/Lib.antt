@@ -27,6 +27,7 @@ mod Opens
 mod Openings
 mod Outgoing
 mod Present
+mod PrivateDenied
 mod Read
 mod Recorded
 mod Sent
