@@ -28,6 +28,9 @@ mod Openings
 mod Outgoing
 mod Present
 mod PrivateDenied
+pub mod PrivateInputs
+pub mod PrivateJudged
+pub mod PrivateParts
 mod Read
 mod Recorded
 mod Sent
