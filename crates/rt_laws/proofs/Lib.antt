@@ -30,6 +30,7 @@ mod Present
 mod PrivateDenied
 pub mod PrivateInputs
 pub mod PrivateJudged
+mod PrivateMembers
 pub mod PrivateParts
 mod Read
 mod Recorded

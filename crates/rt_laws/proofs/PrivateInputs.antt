@@ -30,7 +30,7 @@ use Rattle.rt_laws.proofs.Shaping.{all_filter_map}
 use Rattle.rt_laws.proofs.PrivateParts.{AreNumbered, Permitted, all_doings}
 
 module _ (c : Catalog) (s : Settings) where
-  numbered : (journal : List Input) → AreNumbered (members_of_journal c s journal)
+  pub numbered : (journal : List Input) → AreNumbered (members_of_journal c s journal)
   numbered journal g h here there e =
       let ms = members_of_journal c s journal in
       numbers_apart c s journal g h (to_contains ms g here) (to_contains ms h there) e

@@ -16,8 +16,8 @@ pub use presence::{
     readers_agree, states_are_read, taken_clients_agree,
 };
 pub use private::{
-    broadcasts_are_permitted, denials_are_answers, joins_are_judged, posts_run_out,
-    renewals_are_judged, tracks_are_permitted, without_messages,
+    broadcasts_are_permitted, denials_are_answers, joins_are_judged, members_are_judged,
+    posts_run_out, renewals_are_judged, tracks_are_permitted, without_messages,
 };
 pub use serving::{serves_all, uncut_is_due};
 pub use steps::{cuts_are_own, others_are_untouched, push_keeps_the_rest};

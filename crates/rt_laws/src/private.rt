@@ -1,7 +1,7 @@
 ghost use Rattle.rt_catalog.specs.declared.catalog.Catalog.{Catalog as CatalogData};
 ghost use Rattle.rt_entry.specs.declared.input.Settings.{Settings as SettingsData};
 ghost use Rattle.rt_laws.specs.Private.{
-    BroadcastsArePermitted, DenialsAreReasons, EachIsPosted, JoinsAreJudged, NothingIsDenied, PostsRunOut, ReasonsAreDenials, RenewalsAreJudged,
+    BroadcastsArePermitted, DenialsAreReasons, EachIsPosted, JoinsAreJudged, MembersAreJudged, NothingIsDenied, PostsRunOut, ReasonsAreDenials, RenewalsAreJudged,
     TracksArePermitted
 };
 
@@ -19,6 +19,12 @@ pub fn joins_are_judged()
 /// A renewal is of a member, and was judged like a join on that member's topic, on the tables at the renewal.
 pub fn renewals_are_judged()
     ensures { (c : CatalogData) (s : SettingsData) → RenewalsAreJudged c s }
+{}
+
+/// Every member's standing was judged by an input of the journal, on its topic and the tables at that input: by that its channel joined with this standing,
+/// or was renewed to it.
+pub fn members_are_judged()
+    ensures { (c : CatalogData) (s : SettingsData) → MembersAreJudged c s }
 {}
 
 /// A broadcast is told on a topic only by a frame of a member of that topic to which sending isn't denied by its last judging, or by a post of which a
