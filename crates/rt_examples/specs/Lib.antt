@@ -11,6 +11,7 @@ pub mod Notes
 pub mod Owners
 pub mod Policies
 pub mod Posts
+pub mod Private
 pub mod Renewal
 pub mod Restrictive
 pub mod Rooms
