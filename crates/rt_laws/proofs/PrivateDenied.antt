@@ -1,25 +1,18 @@
 -- Posts whose claims have run out, and what a denial is.
-use Rattle.std.proofs.Common.{◌≡◌, ℕ, Bool, true, false, ◌||◌, List, [], Option, Some, None, refl, ap, ◌∙◌}
+use Rattle.std.proofs.Common.{◌≡◌, Bool, true, false, ◌||◌, List, [], Option, Some, None, refl, ap, ◌∙◌}
 use Rattle.std.specs.Prelude.{is_none}
 use Rattle.std.specs.List.{filter, filter_map, flat_map}
-use Rattle.rt_value.specs.declared.claims.Claims.{Claims}
-use Rattle.rt_value.specs.declared.row.Row.{Row}
 use Rattle.rt_value.specs.Choice.{◌>>=◌, is_at}
-use Rattle.rt_token.specs.Asked.{seconds_of}
-use Rattle.rt_token.specs.Claims.{is_expired}
-use Rattle.rt_phx.specs.declared.message.Posting.{Posting}
 use Rattle.rt_catalog.specs.declared.catalog.Catalog.{Catalog}
 use Rattle.rt_catalog.specs.Access.{role_named}
 use Rattle.rt_private.specs.declared.right.Messages.{Messages}
-use Rattle.rt_private.specs.Rights.{Use, messages_of, right, denial_text, denial}
-use Rattle.rt_entry.specs.declared.input.Input.{Input}
+use Rattle.rt_private.specs.Rights.{messages_of, right, denial_text, denial}
 use Rattle.rt_entry.specs.declared.input.Input.TheVariants.{Post}
 use Rattle.rt_entry.specs.declared.input.Settings.{Settings}
 use Rattle.rt_entry.specs.declared.story.Part.{Part}
-use Rattle.rt_entry.specs.Story.{Now}
 use Rattle.rt_entry.specs.Doings.{doings, posting_parts, may_post, may_send}
-use Rattle.rt_entry.specs.Answers.{answer_of, answers_by, answers}
-use Rattle.rt_laws.specs.Private.{IsReason, DenialsAreReasons, ReasonsAreDenials, NothingIsDenied, PostsRunOut, EachIsPosted, found_by, tables_by}
+use Rattle.rt_entry.specs.Answers.{answer_of, answers_by}
+use Rattle.rt_laws.specs.Private.{DenialsAreReasons, ReasonsAreDenials, NothingIsDenied, PostsRunOut, EachIsPosted, found_by, tables_by}
 
 pub posts_run_out : (c : Catalog) (s : Settings) → PostsRunOut c s
 unfolding answers_by doings

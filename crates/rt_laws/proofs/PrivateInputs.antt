@@ -2,29 +2,20 @@
 use Rattle.std.proofs.Common.{◌≡◌, ◌⊎◌, ℕ, true, List, refl, inl, inr}
 use Rattle.std.specs.Prelude.{⊤, codes, Contains}
 use Rattle.std.specs.Str.{bytes_eq}
-use Rattle.rt_value.specs.declared.row.Row.{Row}
 use Rattle.rt_value.proofs.Among.{from_contains, to_contains}
 use Rattle.rt_value.proofs.Plain.{AllOf, Maybe, all_among}
 use Rattle.rt_phx.specs.declared.message.Message.{Message}
 use Rattle.rt_catalog.specs.declared.catalog.Catalog.{Catalog}
 use Rattle.rt_entry.specs.declared.input.Input.{Input}
-use Rattle.rt_entry.specs.declared.input.Input.TheVariants.{Frame, Post}
 use Rattle.rt_entry.specs.declared.input.Settings.{Settings}
-use Rattle.rt_entry.specs.declared.story.Opening.{Opening}
-use Rattle.rt_entry.specs.declared.story.Standing.{Standing}
-use Rattle.rt_entry.specs.declared.story.Channel.{Channel}
-use Rattle.rt_entry.specs.declared.story.Member.{Member}
-use Rattle.rt_entry.specs.declared.story.Track.{Track}
 use Rattle.rt_entry.specs.declared.story.Part.{Part}
 use Rattle.rt_entry.specs.declared.story.Part.TheVariants.{Opens, Ends, Tells, Joins, Renews, Tracks, Untracks, Departs}
 use Rattle.rt_entry.specs.declared.answer.Answer.{Answer}
 use Rattle.rt_entry.specs.declared.answer.Answer.TheVariants.{Says}
-use Rattle.rt_entry.specs.Story.{now_of}
-use Rattle.rt_entry.specs.Doings.{story}
 use Rattle.rt_entry.specs.Answers.{answer_of, answers_by, answers}
 use Rattle.rt_laws.specs.After.{done_by}
 use Rattle.rt_laws.specs.Members.{members_of_journal}
-use Rattle.rt_laws.specs.Private.{IsRenewal, IsSent, IsPosted, MayTrack, JoinsAreJudged, RenewalsAreJudged, BroadcastsArePermitted, TracksArePermitted, found_by, tables_by}
+use Rattle.rt_laws.specs.Private.{IsSent, IsPosted, JoinsAreJudged, RenewalsAreJudged, BroadcastsArePermitted, TracksArePermitted, found_by, tables_by}
 use Rattle.rt_laws.proofs.Once.{numbers_apart}
 use Rattle.rt_laws.proofs.Shaping.{all_filter_map}
 use Rattle.rt_laws.proofs.PrivateParts.{AreNumbered, Permitted, all_doings}

@@ -1,12 +1,12 @@
 -- A join that is accepted and a renewal were judged.
-use Rattle.std.proofs.Common.{◌≡◌, ℕ, ◌+◌, Bool, true, false, ◌&&◌, List, [], map, Option, Some, None, Ok, Err, refl, ap, subst}
+use Rattle.std.proofs.Common.{◌≡◌, ℕ, ◌+◌, Bool, true, false, ◌&&◌, List, map, Option, Some, None, Ok, Err, refl, ap, subst}
 use Rattle.std.specs.Prelude.{⊤, Result, codes, nat_lt, is_none}
 use Rattle.rt_value.specs.declared.claims.Claims.{Claims}
 use Rattle.rt_value.specs.declared.row.Row.{Row}
 use Rattle.rt_json.specs.declared.tree.Json.{Json}
 use Rattle.rt_json.specs.Lookup.{member_of}
 use Rattle.rt_phx.specs.declared.message.Message.{Message}
-use Rattle.rt_phx.specs.Joins.{Config, config_of}
+use Rattle.rt_phx.specs.Joins.{config_of}
 use Rattle.rt_phx.specs.Asks.{name_in}
 use Rattle.rt_catalog.specs.declared.catalog.Catalog.{Catalog}
 use Rattle.rt_registry.specs.declared.binding.Subscribed.{Subscribed}

@@ -1,8 +1,16 @@
 ghost use Rattle.rt_catalog.specs.declared.catalog.Catalog.{Catalog as CatalogData};
 ghost use Rattle.rt_entry.specs.declared.input.Settings.{Settings as SettingsData};
 ghost use Rattle.rt_laws.specs.Private.{
-    BroadcastsArePermitted, DenialsAreReasons, EachIsPosted, JoinsAreJudged, MembersAreJudged, NothingIsDenied, PostsRunOut, ReasonsAreDenials, RenewalsAreJudged,
-    TracksArePermitted
+  BroadcastsArePermitted,
+  DenialsAreReasons,
+  EachIsPosted,
+  JoinsAreJudged,
+  MembersAreJudged,
+  NothingIsDenied,
+  PostsRunOut,
+  ReasonsAreDenials,
+  RenewalsAreJudged,
+  TracksArePermitted,
 };
 
 /// A post says nothing where its claims have run out.
