@@ -10,6 +10,7 @@ mod NotesComputed
 mod OwnersComputed
 mod Polls
 mod PostsComputed
+mod PrivateComputed
 mod RenewalComputed
 mod RestrictiveComputed
 mod RoomsComputed

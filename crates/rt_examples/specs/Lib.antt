@@ -14,6 +14,7 @@ pub mod Owners
 pub mod Policied
 pub mod Policies
 pub mod Posts
+pub mod Private
 pub mod Renewal
 pub mod Restrictive
 pub mod Rooms

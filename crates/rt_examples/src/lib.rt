@@ -20,6 +20,7 @@ ghost use Rattle.rt_examples.specs.Identities.{IdentityIsBound, NoIdentityIsBoun
 ghost use Rattle.rt_examples.specs.Notes.{FirstRun};
 ghost use Rattle.rt_examples.specs.Owners.{OwnersAreJudged};
 ghost use Rattle.rt_examples.specs.Posts.{PostsAreHeard};
+ghost use Rattle.rt_examples.specs.Private.{MembersJoin, OpenJoinsAreRefused, ReadersDontSend, StrangersAreRefused};
 ghost use Rattle.rt_examples.specs.Renewal.{TokenIsSigned, RenewalIsFollowed};
 ghost use Rattle.rt_examples.specs.Tracks.{KeylessGets, LeaverGets, WatcherGets};
 
@@ -141,4 +142,13 @@ pub fn memberships()
     ensures public_role { PublicIsNoMember }
     ensures bypass { BypassStays }
     ensures quoted { QuotedIsAGroup }
+{}
+
+/// A join is permitted by a policy of `realtime.messages` once the caller is a member of the topic's room, and not before; a join that isn't private is
+/// refused; and a policy that permits to read alone lets its caller join and not send.
+pub fn private_channels()
+    ensures strangers { StrangersAreRefused }
+    ensures members { MembersJoin }
+    ensures open_joins { OpenJoinsAreRefused }
+    ensures readers { ReadersDontSend }
 {}

@@ -27,6 +27,11 @@ mod Opens
 mod Openings
 mod Outgoing
 mod Present
+mod PrivateDenied
+pub mod PrivateInputs
+pub mod PrivateJudged
+mod PrivateMembers
+pub mod PrivateParts
 mod Read
 mod Recorded
 mod Sent

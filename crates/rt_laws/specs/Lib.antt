@@ -7,6 +7,7 @@ pub mod Follows
 pub mod Ids
 pub mod Members
 pub mod Openings
+pub mod Private
 pub mod Served
 pub mod Told
 pub mod Tracks

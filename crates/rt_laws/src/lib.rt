@@ -4,6 +4,7 @@
 mod access;
 mod lanes;
 mod presence;
+mod private;
 mod serving;
 mod steps;
 mod stories;
@@ -13,6 +14,10 @@ pub use lanes::{entries_give, lanes_fan_out, marks_stay, stops_are_marked};
 pub use presence::{
     answers_are_readable, clients_agree, clients_follow, departures_are_told, given_clients_agree,
     readers_agree, states_are_read, taken_clients_agree,
+};
+pub use private::{
+    broadcasts_are_permitted, denials_are_answers, joins_are_judged, members_are_judged,
+    posts_run_out, renewals_are_judged, tracks_are_permitted, without_messages,
 };
 pub use serving::{serves_all, uncut_is_due};
 pub use steps::{cuts_are_own, others_are_untouched, push_keeps_the_rest};

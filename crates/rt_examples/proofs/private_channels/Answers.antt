@@ -1,0 +1,11 @@
+use Rattle.rt_examples.proofs.PrivateComputed.{strangers_are_refused_holds, members_join_holds, open_joins_are_refused_holds, readers_dont_send_holds}
+use Rattle.rt_examples.proofs.private_channels.Goals as goal
+
+pub returns : goal.returns
+returns c =
+    record {
+      strangers = strangers_are_refused_holds;
+      members = members_join_holds;
+      open_joins = open_joins_are_refused_holds;
+      readers = readers_dont_send_holds;
+    }
