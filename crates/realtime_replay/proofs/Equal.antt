@@ -97,7 +97,7 @@ behind_three e = cc
 -- three members of an object, twice
 pub three_twice : (one two three : List ℕ) (a b c x y z : Json)
     → j.Object (field one a ∷ field two b ∷ field three c ∷ []) ≡ j.Object
-        (field one x ∷ field two y ∷ field three z ∷ []) → (a ≡ x) × (b ≡ y) × (c ≡ z)
+    (field one x ∷ field two y ∷ field three z ∷ []) → (a ≡ x) × (b ≡ y) × (c ≡ z)
 three_twice one two three a b c x y z e =
     let first = first_twice one _ _ _ a x refl (same_members _ _ e) in
     let second = first_twice two _ _ _ b y refl first.1 in

@@ -40,7 +40,7 @@ CutsAt byte text r =
 
 pub cuts_at : (byte : ℕ) (text : List ℕ) (r : Option (Bor (List ℕ) × Bor (List ℕ)))
     → MatchOption r (Lacks byte text) (λ x. (text ≡ x.0.now ++ byte ∷ x.1.now) × Lacks byte x.0.now)
-        → CutsAt byte text r
+    → CutsAt byte text r
 cuts_at byte text None h = λ before after lacks e.
     let whole : length text ≡ length before + suc (length after) = ap length e ∙ length-append before (byte ∷ after) in
     h (length before) (omega arith) (ap (λ t. slice_index t (length before)) e ∙ at_seam byte before after)
@@ -68,17 +68,19 @@ off byte text a x b y c lacks e = cut_once byte a b x y c.0 lacks (sym c.1 ∙ e
 
 pub lacks_or_has : (byte : ℕ) (text : List ℕ) (r : Bool)
     → (r ≡ true → (k : ℕ) × (k < length text) × (slice_index text k ≡ byte))
-        × ((k : ℕ) → k < length text → slice_index text k ≡ byte → r ≡ true)
+    × ((k : ℕ) → k < length text → slice_index text k ≡ byte → r ≡ true)
     → IsTrue r ↔ (Lacks byte text → ⊥)
 lacks_or_has byte text true h = ((λ t lacks. let k = h.0 refl in lacks k.0 k.1 k.2), (λ f. refl))
-lacks_or_has byte text false h = ((λ t. absurd (let bad : false ≡ true = t in cc)),
-    (λ f. absurd (f (λ i below e. let bad : false ≡ true = h.1 i below e in cc))))
+lacks_or_has byte text false h = (
+  (λ t. absurd (let bad : false ≡ true = t in cc)),
+  (λ f. absurd (f (λ i below e. let bad : false ≡ true = h.1 i below e in cc))),
+)
 
 pub same_slot : (word : List ℕ) (a b : ℕ) (x y : List ℕ) → a < 2 ^ 64 → b < 2 ^ 64
     → slot_line word a x ≡ slot_line word b y → (a ≡ b) × (x ≡ y)
 same_slot word a b x y small_a small_b e =
     let same = cut_once 32 (decimal a) (decimal b) x y (no_blank a small_a) (no_blank b small_b)
-        (append_cancel_left word _ _ e) in
+    (append_cancel_left word _ _ e) in
     (decimal_injective a b small_a small_b same.0, same.1)
 
 pub same_lines : {text o f w p a b c d : List ℕ} → AreLines text o f w p → AreLines text a b c d → (o ≡ a) × (f ≡ b)
@@ -100,6 +102,6 @@ pub parts_once : (text : List ℕ) (a w : ℕ) (b c d x y z : List ℕ) → AreP
 parts_once text a w b c d x y z g h =
     let s = same_lines g.1 h.1 in
     let one = same_slot (codes "open ") a w (codes "1.0.0 " ++ b) (codes "1.0.0 " ++ x) (omega (arith, g.0))
-        (omega (arith, h.0)) s.0 in
+    (omega (arith, h.0)) s.0 in
     let two = same_slot (codes "frame ") a w c y (omega (arith, g.0)) (omega (arith, h.0)) s.1 in
     (one.0, append_cancel_left (codes "1.0.0 ") b x one.1, two.1, append_cancel_left (codes "wal ") d z s.2)

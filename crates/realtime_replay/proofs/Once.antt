@@ -50,7 +50,7 @@ column_once e {words} {r} {q} {a} {b} {s} {t} {k} {l} n g h =
 
 pub columns_once : {words r q : List (List ℕ)} {a b x y : List ℕ} {s t u v : ColumnType} {k l : Bool}
     → words ≡ columns_words a s b t k r → words ≡ columns_words x u y v l q → (a ≡ x) × (s ≡ u) × (b ≡ y) × (t ≡ v)
-        × (k ≡ l) × (r ≡ q)
+    × (k ≡ l) × (r ≡ q)
 columns_once {words} {r} {q} {a} {b} {x} {y} {s} {t} {u} {v} {k} {l} g h =
     let one = column_once (codes ",") no_comma g h in
     let two = column_once (codes ")") no_end refl one.3 in

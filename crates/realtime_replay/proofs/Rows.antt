@@ -10,7 +10,7 @@ use Rattle.rt_first.specs.Messages.{row_members}
 pub one_more : (columns : List Column) (values : List Json) (d : Column) (e : Json) (i : ℕ) → i < length columns
     → i < length values
     → row_members (take (suc i) columns) (take (suc i) values) ≡ row_members (take i columns) (take i values) ++ field
-        (get_or columns i d).name (get_or values i e) ∷ []
+    (get_or columns i d).name (get_or values i e) ∷ []
 one_more [] values d e i h k = absurd (omega arith)
 one_more (c ∷ columns) [] d e i h k = absurd (omega arith)
 one_more (c ∷ columns) (v ∷ values) d e zero h k = refl
@@ -21,9 +21,9 @@ one_more (c ∷ columns) (v ∷ values) d e (suc i) h k = ap (λ rest. field c.n
 pub next_member : (columns : List Column) (values : List Json) (i : ℕ) (old new : List Member) (column : Column)
     (name : List ℕ) (item value : Json)
     → i < length columns → i < length values → old ≡ row_members (take i columns) (take i values)
-        → item ≡ get_or values i item
+    → item ≡ get_or values i item
     → name ≡ (get_or columns i column).name → value ≡ item → new ≡ old ++ field name value ∷ [] → new ≡ row_members
-        (take (i + 1) columns) (take (i + 1) values)
+    (take (i + 1) columns) (take (i + 1) values)
 next_member columns values i old new column name item value h k so_far is_item is_name is_value put =
     let more = one_more columns values column item i h k in
     rw add-one (put ∙ rw (so_far, is_name, is_value, more, ← is_item) refl)

@@ -90,7 +90,7 @@ pub meaning : (catalogue script : Flow) (c : Catalogue) (x : Script) → GivenIs
     → (journal : List Input) × Means catalogue script c journal × (printed x.slot (given c x) ≡ due_bytes c journal)
 meaning catalogue script c x law one h =
     let d = law one.has.is.words c h.is.slot h.is.claims h.is.frame h.is.line x
-        h.is.parts.0 one.has.is.statements h.is.said in
+    h.is.parts.0 one.has.is.statements h.is.said in
     let inputs : AreInputsOf c h.text d.journal = record { script = x; is = h.is; inputs = d.inputs } in
     (d.journal, record { has = one.has; text = h.text; gave = h.gave; inputs = inputs }, d.printed_is)
 
@@ -104,11 +104,17 @@ ran catalogue script out c x bytes law one h same put =
 pub ran_in_part : (catalogue script out : Flow) (c : Catalogue) (x : Script) (bytes : List ℕ) → GivenIsDue
     → HasOne catalogue c → HasScript c script x
     → bytes ≡ printed x.slot (given c x) → PutsFront out.before out.after bytes → HasFailed out
-        → RanInPart catalogue script out
+    → RanInPart catalogue script out
 ran_in_part catalogue script out c x bytes law one h same put failed =
     let m = meaning catalogue script c x law one h in
-    record { c = c; journal = m.0; means = m.1; put = subst (PutsFront out.before out.after) (same ∙ m.2) put; failed =
-        failed }
+    record {
+      c = c;
+      journal = m.0;
+      means = m.1;
+      put = subst (PutsFront out.before out.after) (same ∙ m.2) put;
+      failed =
+          failed;
+    }
 
 first_differs : {words r q : List (List ℕ)} {a b : List ℕ} → a ≢ b → words ≡ a ∷ r → words ≡ b ∷ q → ⊥
 first_differs n e h = n (cons_twice e h).0
@@ -176,13 +182,13 @@ module _ (catalogue script out : Flow) (text lines : List ℕ) (calm : IsCalm ca
   no_form : RunTells catalogue script out s.NotBuilt → AreOfForm text lines → ⊥
   no_form (inl (none, same), kept) form =
       none.none form.c (subst (λ t. IsCatalogue t form.c)
-          (sym (gave_all catalogue text none.text calm.catalogue_is none.gave)) form.is_catalogue)
+      (sym (gave_all catalogue text none.text calm.catalogue_is none.gave)) form.is_catalogue)
   no_form (inr none, kept) form =
       none.none form.c form.script
       (subst (λ t. IsCatalogue t form.c)
-          (sym (gave_all catalogue text none.has.text calm.catalogue_is none.has.gave)) form.is_catalogue)
+      (sym (gave_all catalogue text none.has.text calm.catalogue_is none.has.gave)) form.is_catalogue)
       (subst (λ t. IsScript form.c t form.script)
-          (sym (gave_all script lines none.text calm.script_is none.gave)) form.is_script)
+      (sym (gave_all script lines none.text calm.script_is none.gave)) form.is_script)
 
   complete_run : (status : Status) → RunTells catalogue script out status → IsComplete text lines status
   complete_run s.Ok h = record { built = λ form. inl refl; unbuilt = λ none. absurd (none (ran_form h)) }
@@ -192,7 +198,7 @@ module _ (catalogue script out : Flow) (text lines : List ℕ) (calm : IsCalm ca
   complete_run s.NoMemory h = record { built = λ form. inr refl; unbuilt = λ none. inr refl }
   complete_run s.TooLong h =
       absurd (befell_not IsTooLong catalogue script (fits_not catalogue text calm.catalogue_is calm.catalogue_fits)
-          (fits_not script lines calm.script_is calm.script_fits) h.0)
+      (fits_not script lines calm.script_is calm.script_fits) h.0)
   complete_run s.NotBuilt h = record { built = λ form. absurd (no_form h form); unbuilt = λ none. inl refl }
 
 -- with both texts known and no fault, the status is the one that the texts decide

@@ -6,7 +6,7 @@ pub returns-in_ok-row-in-Some-clause-only : goal.returns-in_ok-row-in-Some-claus
 returns-in_ok-row-in-Some-clause-only c = λ row h.
     let same = insert_once c.in-Some.ensures h.inserts in
     c.in_ok-row-in-Some.ensures ∙ ap (λ v. v ∷ c.in-Some.two.now ∷ []) same.0 ∙ ap (λ v. h.one ∷ v ∷ []) same.1
-        ∙ sym h.values
+    ∙ sym h.values
 
 pub returns-in-None-clause-only : goal.returns-in-None-clause-only
 returns-in-None-clause-only c = λ row h. absurd (c.in-None.ensures h.one h.two h.inserts)

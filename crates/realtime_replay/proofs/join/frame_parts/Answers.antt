@@ -29,8 +29,8 @@ pub returns-then-is_empty : goal.returns-then-is_empty
 returns-then-is_empty c =
     c.in_ok-members_of.ensures
     ∙ ap j.Object (c.in_ok-topic.ensures ∙ more _ (c.in_ok-rest.ensures ∙ more _
-        (c.in_ok-payload.ensures ∙ more _ (c.in_ok-reference.ensures ∙ more _
-        (empty_of _ _ c.is_empty.ensures c.if-is_empty.true)))))
+    (c.in_ok-payload.ensures ∙ more _ (c.in_ok-reference.ensures ∙ more _
+    (empty_of _ _ c.is_empty.ensures c.if-is_empty.true)))))
 
 pub returns-else-is_empty : goal.returns-else-is_empty
 returns-else-is_empty c = λ t p r h.

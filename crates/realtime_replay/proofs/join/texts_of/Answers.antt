@@ -13,4 +13,4 @@ returns-in_err-reference c = rw c.from_residual-in_err-reference.ensures (λ t r
 pub returns-else-is_payload : goal.returns-else-is_payload
 returns-else-is_payload c = λ t r h.
     untrue (sym c.if-is_payload.false ∙ c.is_payload.ensures.1
-        (frame_twice _ _ _ _ _ _ (sym c.in_ok-topic.ensures ∙ h)).1)
+    (frame_twice _ _ _ _ _ _ (sym c.in_ok-topic.ensures ∙ h)).1)

@@ -10,4 +10,4 @@ returns-in-Ok-clause-only c = λ tree h. c.in-Ok.ensures.only tree
 pub returns-in-Err-clause-only : goal.returns-in-Err-clause-only
 returns-in-Err-clause-only c = λ tree h.
     c.of_json.ensures ∙ json_fault _ tree (c.in-Err.ensures.only tree
-        (subst (λ (bytes : List ℕ). IsJson bytes tree) (sym c.as_bytes.ensures.value) h))
+    (subst (λ (bytes : List ℕ). IsJson bytes tree) (sym c.as_bytes.ensures.value) h))

@@ -12,4 +12,4 @@ returns-in-Some g c = runs (subst (IsCommand _) (c.if-is_built.ensures.0 refl) c
 pub returns-in-Some-2 : goal.returns-in-Some-2
 returns-in-Some-2 g c =
     not_built c.in-Some.command c.in-Some.ensures (λ e. let f : false ≡ true = c.if-is_built.ensures.1 e in cc)
-        (record { catalogue_is = refl; script_is = refl; out_is = refl })
+    (record { catalogue_is = refl; script_is = refl; out_is = refl })

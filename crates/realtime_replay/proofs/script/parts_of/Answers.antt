@@ -14,7 +14,7 @@ pub returns-in_err-claims : goal.returns-in_err-claims
 returns-in_err-claims c = rw c.from_residual-in_err-claims.ensures (λ slot claims frame entry h.
     let s = same_lines c.in_ok-opening.ensures h.1 in
     let one = same_slot (codes "open ") c.in_ok-slot.slot slot _ (codes "1.0.0 " ++ claims)
-        (omega (arith, c.in_ok-slot.ensures.0)) (omega (arith, h.0)) (sym c.in_ok-slot.ensures.1 ∙ s.0) in
+    (omega (arith, c.in_ok-slot.ensures.0)) (omega (arith, h.0)) (sym c.in_ok-slot.ensures.1 ∙ s.0) in
     c.in_err-claims.ensures claims one.1)
 
 pub returns-in_err-framed : goal.returns-in_err-framed
@@ -29,9 +29,9 @@ pub returns-then-framed-slot : goal.returns-then-framed-slot
 returns-then-framed-slot c = λ slot claims frame entry h.
     let s = same_lines c.in_ok-opening.ensures h.1 in
     let one = same_slot (codes "open ") c.in_ok-slot.slot slot _ (codes "1.0.0 " ++ claims)
-        (omega (arith, c.in_ok-slot.ensures.0)) (omega (arith, h.0)) (sym c.in_ok-slot.ensures.1 ∙ s.0) in
+    (omega (arith, c.in_ok-slot.ensures.0)) (omega (arith, h.0)) (sym c.in_ok-slot.ensures.1 ∙ s.0) in
     let two = same_slot (codes "frame ") c.in_ok-framed.framed slot _ frame (omega (arith, c.in_ok-framed.ensures.0))
-        (omega (arith, h.0)) (sym c.in_ok-framed.ensures.1 ∙ s.1) in
+    (omega (arith, h.0)) (sym c.in_ok-framed.ensures.1 ∙ s.1) in
     c.if-framed-slot.true (two.0 ∙ sym one.0)
 
 pub returns-then-ne : goal.returns-then-ne

@@ -27,4 +27,4 @@ pub returns-clause-only : goal.returns-clause-only
 returns-clause-only c = λ script h.
     let P : List ℕ → Type 0 = λ t. IsJoin t c.args.frame.now script.join in
     same_script _ script h.slot_is (c.in_ok-join.ensures.only script.join
-        (subst P (sym c.get-2.ensures.bytes) h.joined)) (c.in_ok-row.ensures.only _ h.inserted)
+    (subst P (sym c.get-2.ensures.bytes) h.joined)) (c.in_ok-row.ensures.only _ h.inserted)

@@ -7,10 +7,10 @@ use Rattle.realtime_replay.proofs.script.slot_and_rest.Goals as goal
 pub returns-in_err-slot : goal.returns-in_err-slot
 returns-in_err-slot c = rw c.from_residual-in_err-slot.ensures (λ slot rest small is.
     c.in_err-slot.ensures (decimal slot) rest (no_blank slot (omega arith))
-        (append_cancel_left c.args.word.now _ _ (sym c.in_ok-behind.ensures ∙ is)))
+    (append_cancel_left c.args.word.now _ _ (sym c.in_ok-behind.ensures ∙ is)))
 
 pub returns-in_err-slot_of : goal.returns-in_err-slot_of
 returns-in_err-slot_of c = rw c.from_residual-in_err-slot_of.ensures (λ slot rest small is.
     let one = off 32 _ _ _ (decimal slot) rest c.in_ok-slot.ensures (no_blank slot (omega arith))
-        (append_cancel_left c.args.word.now _ _ (sym c.in_ok-behind.ensures ∙ is)) in
+    (append_cancel_left c.args.word.now _ _ (sym c.in_ok-behind.ensures ∙ is)) in
     c.in_err-slot_of.ensures slot small one.0)
