@@ -1,5 +1,5 @@
 -- Computed but for what the policy is of the row that is asked, which goes by its fold.
-use Rattle.std.proofs.Common.{◌≡◌, ℕ, Bool, true, false, ◌||◌, not, List, [], ◌∷◌, ◌++◌, length, Option, Some, None, Ok, refl, ap, ◌∙◌}
+use Rattle.std.proofs.Common.{◌≡◌, ℕ, Bool, false, ◌||◌, not, List, [], ◌∷◌, ◌++◌, length, Option, Some, None, Ok, refl, ap, ◌∙◌}
 use Rattle.std.specs.Prelude.{if◌then◌else◌, codes, unwrap_or}
 use Rattle.std.specs.Fmt.{decimal}
 use Rattle.std.specs.List.{filter_map}
@@ -30,13 +30,13 @@ use Rattle.rt_entry.specs.declared.story.Standing.{Standing}
 use Rattle.rt_entry.specs.declared.story.Channel.{Channel}
 use Rattle.rt_entry.specs.declared.story.Part.{Part}
 use Rattle.rt_entry.specs.Joining.{◌>>◌, unless, denied}
-use Rattle.rt_entry.specs.Story.{Line, Story, now_of, tables_left}
+use Rattle.rt_entry.specs.Story.{Story, now_of, tables_left}
 use Rattle.rt_entry.specs.Doings.{join_result_parts, doings, story}
 use Rattle.rt_entry.specs.Answers.{Answers, answer_of, answers_by, all_answers, items_for, due}
 use Rattle.rt_examples.specs.Computes.{computes}
 use Rattle.rt_examples.specs.Notes.{settings}
 use Rattle.rt_examples.specs.Rooms.{user}
-use Rattle.rt_examples.specs.Private.{is_member, member_reads, member_is, member_reads_is, member_fold, reading_fold, member_reach, member_reads_reach, rules, channels, rooms, read_rooms, join, open_join, send, opened, listed, StrangersAreRefused, MembersJoin, OpenJoinsAreRefused, ReadersDontSend}
+use Rattle.rt_examples.specs.Private.{is_member, member_reads, member_is, member_reads_is, member_fold, reading_fold, member_reach, member_reads_reach, rules, channels, rooms, read_rooms, join, send, opened, listed, StrangersAreRefused, MembersJoin, OpenJoinsAreRefused, ReadersDontSend}
 
 pub open_joins_are_refused_holds : OpenJoinsAreRefused
 unfolding computes

@@ -1,7 +1,7 @@
 -- Private channels: who may join is what a policy of `realtime.messages` says, here that the caller is a member of the topic's room; and a policy that
 -- permits to read alone lets nobody send.
-use Rattle.std.specs.Prelude.{◌≡◌, ℕ, List, [], ◌∷◌, ◌&&◌, true, false, nat_le, codes, Option, Some, None, map, suc}
-use Rattle.std.proofs.Common.{lit<, refl, sym, ap, ap₂, ◌∙◌}
+use Rattle.std.specs.Prelude.{◌≡◌, ℕ, List, [], ◌∷◌, ◌&&◌, true, false, nat_le, codes, Some, None, map}
+use Rattle.std.proofs.Common.{lit<, sym, ap, ap₂, ◌∙◌}
 use Rattle.rt_value.specs.declared.value.Value.TheVariants as value
 use Rattle.rt_value.specs.declared.value.Kind.TheVariants as kind
 use Rattle.rt_value.specs.declared.row.Key.{Key}
