@@ -8,8 +8,6 @@ pub mod laws;
 mod passing;
 mod reading;
 mod subscription;
-#[cfg(test)]
-mod tests;
 
 pub use checking::check;
 pub use fault::FilterFault;
