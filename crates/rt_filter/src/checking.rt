@@ -1,4 +1,5 @@
-ghost use Rattle.std.specs.Prelude.{◌≡◌, ◌≢◌, ◌⊎◌, find, None, Some, Ok, Err, option_map, IfOk, IfErr};
+ghost use Rattle.std.specs.Prelude.{◌≡◌, ◌≢◌, ◌⊎◌, find, None, Some, Ok, Err};
+ghost use Rattle.std.specs.Prelude.{option_map, IfOk, IfErr};
 ghost use Rattle.std.specs.List.{enumerate_from};
 ghost use Rattle.std.specs.Str.{bytes_eq};
 ghost use Rattle.rt_filter.specs.declared.fault.FilterFault.{FilterFault};
@@ -21,8 +22,10 @@ const VALUE_LIMIT: usize = 100;
 /// of 32 bits then.
 pub fn check(alloc: Global, filter: &Filter, columns: &[Shown]) -> Result<Test, FilterFault>
     ensures ok { IfOk result (λ test. test_of filter.now columns.now ≡ Ok test) }
-    ensures err { IfErr result (λ e. (e ≡ FilterFault.NoMemory) ⊎ (test_of filter.now columns.now ≡ Err e)) }
-    ensures first { (e : FilterFault) → test_of filter.now columns.now ≡ Err e → e ≢ FilterFault.BadValue → result ≡ Err e }
+    ensures err { IfErr result (λ e.
+        (e ≡ FilterFault.NoMemory) ⊎ (test_of filter.now columns.now ≡ Err e)) }
+    ensures first { (e : FilterFault) → test_of filter.now columns.now ≡ Err e →
+        e ≢ FilterFault.BadValue → result ≡ Err e }
 {
     let (place, kind) = column_of(filter, columns)?;
     let Ok(column) = u32::try_from(place) else {
@@ -38,7 +41,8 @@ pub fn check(alloc: Global, filter: &Filter, columns: &[Shown]) -> Result<Test, 
 
 /// The first column of a name, and its place.
 fn named<'a>(name: &Text, columns: &'a [Shown]) -> Option<(usize, &'a Shown)>
-    ensures { option_map (λ c. (c.0, c.1.now)) result ≡ find (λ c. bytes_eq c.1.name name.now) (enumerate_from 0 columns.now) }
+    ensures { option_map (λ c. (c.0, c.1.now)) result
+        ≡ find (λ c. bytes_eq c.1.name name.now) (enumerate_from 0 columns.now) }
 {
     let mut places = columns.iter().enumerate();
     places.find(|(_, shown)| shown.name == *name)
@@ -47,7 +51,8 @@ fn named<'a>(name: &Text, columns: &'a [Shown]) -> Option<(usize, &'a Shown)>
 /// The place and the kind of the filter's column, where the filter may be asked of it.
 #[tactic(auto, unfolding(crate::specs::Tests::test_of))]
 fn column_of(filter: &Filter, columns: &[Shown]) -> Result<(usize, Kind), FilterFault>
-    ensures ok { IfOk result (λ c. test_of filter.now columns.now ≡ test_with c.0 filter.now.op (all_read c.1 filter.now.values)) }
+    ensures ok { IfOk result (λ c. test_of filter.now columns.now
+        ≡ test_with c.0 filter.now.op (all_read c.1 filter.now.values)) }
     ensures err { IfErr result (λ e. test_of filter.now columns.now ≡ Err e) }
 {
     let (place, shown) = named(&filter.column, columns).ok_or(FilterFault::ColumnHidden)?;
@@ -67,7 +72,8 @@ fn column_of(filter: &Filter, columns: &[Shown]) -> Result<(usize, Kind), Filter
 #[tactic(auto, using(crate::proofs::Values::read_none, crate::proofs::Values::read_more, crate::proofs::Values::read_bad, crate::proofs::Values::read_all))]
 fn values_in(alloc: Global, kind: Kind, texts: &[Text]) -> Result<List<Value>, FilterFault>
     ensures ok { IfOk result (λ values. all_read kind texts.now ≡ Some values) }
-    ensures err { IfErr result (λ e. (e ≡ FilterFault.NoMemory) ⊎ ((e ≡ FilterFault.BadValue) × (all_read kind texts.now ≡ None))) }
+    ensures err { IfErr result (λ e. (e ≡ FilterFault.NoMemory)
+        ⊎ ((e ≡ FilterFault.BadValue) × (all_read kind texts.now ≡ None))) }
 {
     let mut values = Vec::with_capacity(alloc, texts.len())?;
     for text in texts {

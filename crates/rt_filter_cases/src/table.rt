@@ -65,7 +65,8 @@ fn cell_of(alloc: Global, kind: Kind, text: &str) -> io::Result<Option<Value>> {
     }
 }
 
-/// Returns the cells that stand between commas, each of its column's kind. There may be fewer cells than columns.
+/// Returns the cells that stand between commas, each of its column's kind. There may be fewer cells
+/// than columns.
 ///
 /// # Errors
 ///
