@@ -1,4 +1,5 @@
-//! Filters of subscriptions, as a client writes them and as a test of a row's cells (the Realtime protocol, "Postgres Changes").
+//! Filters of subscriptions, as a client writes them and as a test of a row's cells (the Realtime
+//! protocol, "Postgres Changes").
 #![tactic(auto)]
 
 mod checking;
@@ -8,8 +9,6 @@ pub mod laws;
 mod passing;
 mod reading;
 mod subscription;
-#[cfg(test)]
-mod tests;
 
 pub use checking::check;
 pub use fault::FilterFault;

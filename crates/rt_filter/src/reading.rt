@@ -1,8 +1,10 @@
-ghost use Rattle.std.specs.Prelude.{◌≡◌, ◌⊎◌, ◌↔◌, ◌==◌, map, None, Some, option_map, IfOk, IfErr, IsErrOf};
+ghost use Rattle.std.specs.Prelude.{◌≡◌, ◌⊎◌, ◌↔◌, ◌==◌, map, None, Some, option_map};
+ghost use Rattle.std.specs.Prelude.{IfOk, IfErr, IsErrOf};
 ghost use Rattle.std.specs.List.{slice_split};
 ghost use Rattle.std.specs.Option.{option_copied};
 ghost use Rattle.rt_filter.specs.declared.filter.Filter.{Filter};
-ghost use Rattle.rt_filter.specs.Written.{IsFilter, filter_of, parts_of, op_named, values_of, listed_values, inside, trimmed};
+ghost use Rattle.rt_filter.specs.Written.{IsFilter, filter_of, parts_of, op_named, values_of};
+ghost use Rattle.rt_filter.specs.Written.{inside, trimmed};
 
 use crate::{Filter, FilterFault, Op};
 use rt_value::{List, Text};
@@ -16,7 +18,8 @@ use std::alloc::{AllocError, Global};
 /// `BadFilter` where the text is no filter, and `NoMemory`.
 pub fn read(alloc: Global, text: &str) -> Result<Filter, FilterFault>
     ensures ok { IfOk result (λ filter. IsFilter text.now filter) }
-    ensures bad { IsErrOf result FilterFault.BadFilter ↔ ((filter : Filter) → ¬ IsFilter text.now filter) }
+    ensures bad { IsErrOf result FilterFault.BadFilter
+        ↔ ((filter : Filter) → ¬ IsFilter text.now filter) }
     ensures err { IfErr result (λ e. (e ≡ FilterFault.BadFilter) ⊎ (e ≡ FilterFault.NoMemory)) }
 
     // The same, by the function that computes the filter.

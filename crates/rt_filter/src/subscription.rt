@@ -10,7 +10,8 @@ pub enum Wanted {
     Delete,
 }
 
-/// A binding of a joined channel, with the claims that the channel has. No table means every table of the schema.
+/// A binding of a joined channel, with the claims that the channel has. No table means every table of
+/// the schema.
 #[derive(Debug, Drop)]
 pub struct Subscription {
     pub id: u64,

@@ -1,4 +1,5 @@
 pub mod Grammar
+pub mod Joining
 pub mod Lent
 pub mod Parse
 pub mod Ranks

@@ -5,6 +5,7 @@ ghost use Rattle.rt_policy.specs.Worth.{uuid_or_null, text_or_null, claim_of};
 use crate::lent::LentValue;
 use rt_value::{Claim, Text};
 
+/// The user of the claims, null where they name none.
 pub fn uuid(sub: Option<u128>) -> LentValue<'static>
     ensures { value_of result ≡ uuid_or_null sub }
 {

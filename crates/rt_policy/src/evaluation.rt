@@ -2,14 +2,15 @@ ghost use Rattle.std.specs.Prelude.{◌≡◌, ◌==◌, ◌||◌, not, Some, ma
 ghost use Rattle.std.specs.List.{list_any};
 ghost use Rattle.std.specs.Option.{option_copied};
 ghost use Rattle.rt_policy.specs.Lent.{value_of};
-ghost use Rattle.rt_policy.specs.Truth.{all_of, any_of, one_of};
-ghost use Rattle.rt_policy.specs.Worth.{worth, who_of, shows};
+ghost use Rattle.rt_policy.specs.Joining.{joined};
+ghost use Rattle.rt_policy.specs.Worth.{Place, worth, who_of, shows};
 ghost use Rattle.rt_policy.specs.Visibility.{visibility, view_of, truth_for, judged, lists};
 
 use crate::claims::{claim, uuid};
+use crate::joining::Joining;
 use crate::lent::{LentValue, cell, cell_in, lend};
-use crate::logic::{as_value, both, compare_by, either, is_true, meets, negate, truth_of};
-use crate::{Caller, Comparison, Judge, Policy, Rules, Seen, TableRules, Truth};
+use crate::logic::{as_value, compare_by, is_true, meets, negate, truth_of};
+use crate::{Caller, Judge, Policy, Rules, Seen, TableRules, Truth};
 use rt_value::{Db, Row, rows_in};
 
 fn contains(roles: &[u32], role: u32) -> bool
@@ -51,8 +52,9 @@ fn worth_in<'a, D: Db>(
     rules: &'a Rules,
     db: &'a D,
 ) -> LentValue<'a>
-    ensures { value_of result ≡ worth (who_of caller.now) (view_of rules.now.tables (who_of caller.now) (D.rows db.now)) judge.now
-        (record { outer = outer.now; inner = option_copied inner.entry }) }
+    ensures { let view = view_of rules.now.tables (who_of caller.now) (D.rows db.now) in
+        let at : Place = record { outer = outer.now; inner = option_copied inner.entry } in
+        value_of result ≡ worth (who_of caller.now) view judge.now at }
 {
     match judge {
         Judge::Literal(value) => lend(value),
@@ -68,14 +70,26 @@ fn worth_in<'a, D: Db>(
         }
         Judge::OneOf(side, all) => {
             let x = worth_in(side.get(), outer, inner, caller, rules, db);
-            as_value(equals_one(x, all.get(), outer, inner, caller, rules, db))
+            as_value(joined(
+                Joining::EqualTo(x),
+                all.get(),
+                outer,
+                inner,
+                caller,
+                rules,
+                db,
+            ))
         }
         Judge::Not(a) => {
             let x = worth_in(a.get(), outer, inner, caller, rules, db);
             as_value(negate(truth_of(x)))
         }
-        Judge::And(all) => as_value(every(all.get(), outer, inner, caller, rules, db)),
-        Judge::Or(all) => as_value(some(all.get(), outer, inner, caller, rules, db)),
+        Judge::And(all) => {
+            as_value(joined(Joining::And, all.get(), outer, inner, caller, rules, db))
+        }
+        Judge::Or(all) => {
+            as_value(joined(Joining::Or, all.get(), outer, inner, caller, rules, db))
+        }
         Judge::Is(tested, a) => {
             let x = worth_in(a.get(), outer, inner, caller, rules, db);
             LentValue::Bool(meets(*tested, x))
@@ -86,10 +100,10 @@ fn worth_in<'a, D: Db>(
     }
 }
 
-/// The OR of the equalities of a value with each expression's.
+/// The truth that a list of expressions gives.
 #[cycle(access)]
-fn equals_one<'a, D: Db>(
-    side: LentValue<'a>,
+fn joined<'a, D: Db>(
+    joining: Joining<'a>,
     judges: &'a [Judge],
     outer: &'a Row,
     inner: Option<&'a Row>,
@@ -97,55 +111,14 @@ fn equals_one<'a, D: Db>(
     rules: &'a Rules,
     db: &'a D,
 ) -> Truth
-    ensures { result ≡ one_of (value_of side.entry) (map (λ j. worth (who_of caller.now) (view_of rules.now.tables (who_of caller.now) (D.rows db.now)) j
-        (record { outer = outer.now; inner = option_copied inner.entry })) judges.now) }
+    ensures { let view = view_of rules.now.tables (who_of caller.now) (D.rows db.now) in
+        let at : Place = record { outer = outer.now; inner = option_copied inner.entry } in
+        result ≡ joined joining.entry (map (λ j. worth (who_of caller.now) view j at) judges.now) }
 {
-    let mut known = Truth::False;
+    let mut known = joining.of_none();
     for judge in judges {
         let x = worth_in(judge, outer, inner, caller, rules, db);
-        known = either(known, compare_by(Comparison::Equal, side, x));
-    }
-    known
-}
-
-/// The AND of expressions.
-#[cycle(access)]
-fn every<'a, D: Db>(
-    judges: &'a [Judge],
-    outer: &'a Row,
-    inner: Option<&'a Row>,
-    caller: &Caller<'a>,
-    rules: &'a Rules,
-    db: &'a D,
-) -> Truth
-    ensures { result ≡ all_of (map (λ j. worth (who_of caller.now) (view_of rules.now.tables (who_of caller.now) (D.rows db.now)) j
-        (record { outer = outer.now; inner = option_copied inner.entry })) judges.now) }
-{
-    let mut known = Truth::True;
-    for judge in judges {
-        let x = worth_in(judge, outer, inner, caller, rules, db);
-        known = both(known, truth_of(x));
-    }
-    known
-}
-
-/// The OR of expressions.
-#[cycle(access)]
-fn some<'a, D: Db>(
-    judges: &'a [Judge],
-    outer: &'a Row,
-    inner: Option<&'a Row>,
-    caller: &Caller<'a>,
-    rules: &'a Rules,
-    db: &'a D,
-) -> Truth
-    ensures { result ≡ any_of (map (λ j. worth (who_of caller.now) (view_of rules.now.tables (who_of caller.now) (D.rows db.now)) j
-        (record { outer = outer.now; inner = option_copied inner.entry })) judges.now) }
-{
-    let mut known = Truth::False;
-    for judge in judges {
-        let x = worth_in(judge, outer, inner, caller, rules, db);
-        known = either(known, truth_of(x));
+        known = joining.with(known, x);
     }
     known
 }
@@ -160,8 +133,9 @@ fn exists<'a, D: Db>(
     rules: &'a Rules,
     db: &'a D,
 ) -> bool
-    ensures { result ≡ list_any (shows (view_of rules.now.tables (who_of caller.now) (D.rows db.now)) table outer.now
-        (worth (who_of caller.now) (view_of rules.now.tables (who_of caller.now) (D.rows db.now)) condition.now)) (D.rows db.now table) }
+    ensures { let view = view_of rules.now.tables (who_of caller.now) (D.rows db.now) in
+        let test = shows view table outer.now (worth (who_of caller.now) view condition.now) in
+        result ≡ list_any test (D.rows db.now table) }
 {
     for row in rows_in(db, table) {
         if matches!(seen(rules, caller, table, row, db), Seen::Yes)
@@ -183,7 +157,8 @@ fn seen<'a, D: Db>(
     row: &'a Row,
     db: &'a D,
 ) -> Seen
-    ensures { result ≡ visibility rules.now.tables (who_of caller.now) (D.rows db.now) table row.now }
+    ensures { let who = who_of caller.now in
+        result ≡ visibility rules.now.tables who (D.rows db.now) table row.now }
 {
     match rules_of(rules, table) {
         None => Seen::NoPolicy,
@@ -208,7 +183,8 @@ fn judge_all<'a, D: Db>(
     db: &'a D,
 ) -> Seen
     requires { slice_get rules.now.tables table ≡ Some entry.now }
-    ensures { result ≡ judged (who_of caller.now) (view_of rules.now.tables (who_of caller.now) (D.rows db.now)) row.now entry.now.policies }
+    ensures { let view = view_of rules.now.tables (who_of caller.now) (D.rows db.now) in
+        result ≡ judged (who_of caller.now) view row.now entry.now.policies }
 {
     let mut applied = false;
     let mut permitted = false;
@@ -248,21 +224,26 @@ fn truth_at<'a, D: Db>(
     rules: &'a Rules,
     db: &'a D,
 ) -> Truth
-    ensures { result ≡ truth_for rules.now.tables (who_of caller.now) (D.rows db.now) judge.now row.now }
+    ensures { let who = who_of caller.now in
+        result ≡ truth_for rules.now.tables who (D.rows db.now) judge.now row.now }
 {
     truth_of(worth_in(judge, row, None, caller, rules, db))
 }
 
-/// What an expression is at a row, for a caller. An EXISTS reads the rows of its table that the caller sees.
+/// What an expression is at a row, for a caller. An EXISTS reads the rows of its table that the
+/// caller sees.
 pub fn holds<D: Db>(judge: &Judge, row: &Row, caller: &Caller<'_>, rules: &Rules, db: &D) -> Truth
-    ensures { result ≡ truth_for rules.now.tables (who_of caller.now) (D.rows db.now) judge.now row.now }
+    ensures { let who = who_of caller.now in
+        result ≡ truth_for rules.now.tables who (D.rows db.now) judge.now row.now }
 {
     truth_at(judge, row, caller, rules, db)
 }
 
-/// Whether a caller sees a row of a table, or the first reason why not. It may be a row that the table doesn't hold.
+/// Whether a caller sees a row of a table, or the first reason why not. It may be a row that the
+/// table doesn't hold.
 pub fn sees<D: Db>(rules: &Rules, caller: &Caller<'_>, table: u32, row: &Row, db: &D) -> Seen
-    ensures { result ≡ visibility rules.now.tables (who_of caller.now) (D.rows db.now) table row.now }
+    ensures { let who = who_of caller.now in
+        result ≡ visibility rules.now.tables who (D.rows db.now) table row.now }
 {
     seen(rules, caller, table, row, db)
 }

@@ -9,6 +9,7 @@ pub enum Truth {
     Unknown,
 }
 
+/// How two values are compared.
 #[derive(Clone, Copy, Debug, Drop, PartialEq, Eq)]
 pub enum Comparison {
     Equal,
@@ -28,7 +29,8 @@ pub enum Tested {
     Unknown,
 }
 
-/// An expression whose names and kinds are resolved. NOT IN is the NOT of an IN, and IS NOT that of an IS.
+/// An expression whose names and kinds are resolved. NOT IN is the NOT of an IN, and IS NOT that of
+/// an IS.
 #[derive(Drop)]
 pub enum Judge {
     Literal(Value),
@@ -45,6 +47,7 @@ pub enum Judge {
     And(List<Judge>),
     Or(List<Judge>),
     Is(Tested, Boxed<Judge>),
-    /// Some row of the table that the caller sees makes the condition true; without WHERE that is the literal true.
+    /// Some row of the table that the caller sees makes the condition true; without WHERE that is the
+    /// literal true.
     Exists(u32, Boxed<Judge>),
 }

@@ -1,4 +1,5 @@
-//! Laws of the definitions, for the proofs of the crates above. Each is a function with an empty body.
+//! Laws of the definitions, for the proofs of the crates above. Each is a function with an empty
+//! body.
 
 ghost use Rattle.std.specs.Prelude.{◌≡◌, ℕ, List};
 ghost use Rattle.rt_value.specs.declared.row.Row.{Row};
@@ -15,13 +16,17 @@ pub fn worth_by_forms()
     ensures rule { (who : Who) (view : View) → IsWorth who view (worth who view) }
     // Nothing else meets that rule.
     ensures only { (who : Who) (view : View) (value : Judge → Place → Value) →
-        IsWorth who view value → (judge : Judge) (at : Place) → value judge at ≡ worth who view judge at }
+        IsWorth who view value →
+        (judge : Judge) (at : Place) → value judge at ≡ worth who view judge at }
 {}
 
-/// What is visible is what the table's policies say, where an EXISTS reads the rows of its table that are visible by the same rule.
+/// What is visible is what the table's policies say, where an EXISTS reads the rows of its table that
+/// are visible by the same rule.
 pub fn visible_by_policies(rules: &Rules)
-    ensures rule { (who : Who) (rows : ℕ → List Row) → IsVisibility rules.now.tables who rows (visibility rules.now.tables who rows) }
+    ensures rule { (who : Who) (rows : ℕ → List Row) →
+        IsVisibility rules.now.tables who rows (visibility rules.now.tables who rows) }
     // Nothing else meets that rule.
     ensures only { (who : Who) (rows : ℕ → List Row) (seen : ℕ → Row → Seen) →
-        IsVisibility rules.now.tables who rows seen → (table : ℕ) (row : Row) → seen table row ≡ visibility rules.now.tables who rows table row }
+        IsVisibility rules.now.tables who rows seen →
+        (table : ℕ) (row : Row) → seen table row ≡ visibility rules.now.tables who rows table row }
 {}

@@ -18,6 +18,7 @@ pub enum LentValue<'a> {
     Opaque,
 }
 
+/// A value with its text on loan.
 pub fn lend(value: &Value) -> LentValue<'_>
     ensures { value_of result ≡ value.now }
 {
@@ -44,6 +45,7 @@ pub fn order(a: LentValue<'_>, b: LentValue<'_>) -> Option<Ordering>
     }
 }
 
+/// The value of a row's column, null where the row hasn't so many.
 pub fn cell(row: &Row, column: u32) -> LentValue<'_>
     ensures { value_of result ≡ cell_at row.now column }
 {
@@ -53,6 +55,7 @@ pub fn cell(row: &Row, column: u32) -> LentValue<'_>
     }
 }
 
+/// The same of a row that may be missing, null without one.
 pub fn cell_in(row: Option<&Row>, column: u32) -> LentValue<'_>
     ensures { value_of result ≡ cell_of (option_copied row.entry) column }
 {

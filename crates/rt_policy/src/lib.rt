@@ -1,5 +1,5 @@
-//! Conditions of row policies: how they are written, what they are at a row, and which rows they show
-//! (PostgreSQL, "Row Security Policies").
+//! Conditions of row policies: how they are written, what they are at a row, and which rows they
+//! show (PostgreSQL, "Row Security Policies").
 #![tactic(auto)]
 
 mod caller;
@@ -7,6 +7,7 @@ mod claims;
 mod evaluation;
 mod expr;
 mod fault;
+mod joining;
 mod judge;
 pub mod laws;
 mod lent;
@@ -15,8 +16,6 @@ mod ranking;
 mod rules;
 mod scope;
 mod tables;
-#[cfg(test)]
-mod tests;
 
 pub use caller::{Caller, Seen};
 pub use evaluation::{holds, sees};

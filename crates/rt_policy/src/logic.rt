@@ -1,11 +1,13 @@
 ghost use Rattle.std.specs.Prelude.{◌≡◌};
 ghost use Rattle.rt_policy.specs.Lent.{value_of};
-ghost use Rattle.rt_policy.specs.Truth.{truth_in, worth_of_truth, is_true as is_so, not_of, and_of, or_of, agrees, compared, is_tested};
+ghost use Rattle.rt_policy.specs.Truth.{truth_in, worth_of_truth, is_true as is_so, not_of};
+ghost use Rattle.rt_policy.specs.Truth.{and_of, or_of, agrees, compared, is_tested};
 
 use crate::lent::{LentValue, order};
 use crate::{Comparison, Tested, Truth};
 use std::cmp::Ordering;
 
+/// A value as a truth; one that isn't a truth value is unknown.
 pub fn truth_of(value: LentValue<'_>) -> Truth
     ensures { result ≡ truth_in (value_of value.entry) }
 {
@@ -16,6 +18,7 @@ pub fn truth_of(value: LentValue<'_>) -> Truth
     }
 }
 
+/// A truth as a value: unknown is null.
 pub fn as_value(truth: Truth) -> LentValue<'static>
     ensures { value_of result ≡ worth_of_truth truth }
 {
@@ -26,12 +29,14 @@ pub fn as_value(truth: Truth) -> LentValue<'static>
     }
 }
 
+/// Whether a truth is true; unknown isn't.
 pub fn is_true(truth: Truth) -> bool
     ensures { result ≡ is_so truth }
 {
     matches!(truth, Truth::True)
 }
 
+/// NOT.
 pub fn negate(truth: Truth) -> Truth
     ensures { result ≡ not_of truth }
 {
@@ -42,6 +47,7 @@ pub fn negate(truth: Truth) -> Truth
     }
 }
 
+/// AND.
 pub fn both(a: Truth, b: Truth) -> Truth
     ensures { result ≡ and_of a b }
 {
@@ -52,6 +58,7 @@ pub fn both(a: Truth, b: Truth) -> Truth
     }
 }
 
+/// OR.
 pub fn either(a: Truth, b: Truth) -> Truth
     ensures { result ≡ or_of a b }
 {
@@ -76,6 +83,7 @@ fn admits(comparison: Comparison, order: Ordering) -> bool
     }
 }
 
+/// What a comparison says of two values; unknown where they have no order, as where one is null.
 pub fn compare_by(comparison: Comparison, a: LentValue<'_>, b: LentValue<'_>) -> Truth
     ensures { result ≡ compared comparison (value_of a.entry) (value_of b.entry) }
 {
@@ -91,6 +99,7 @@ pub fn compare_by(comparison: Comparison, a: LentValue<'_>, b: LentValue<'_>) ->
     }
 }
 
+/// What IS says of a value. It is never unknown.
 pub fn meets(tested: Tested, value: LentValue<'_>) -> bool
     ensures { result ≡ is_tested tested (value_of value.entry) }
 {

@@ -13,8 +13,8 @@ pub struct Policy {
     pub judge: Option<Judge>,
 }
 
-/// The row security of a table, with its policies in the order of their names. The rank is above that of every table which the
-/// policies that select read.
+/// The row security of a table, with its policies in the order of their names. The rank is above that
+/// of every table which the policies that select read.
 #[derive(Drop)]
 pub struct TableRules {
     pub secured: bool,

@@ -5,7 +5,7 @@ use Rattle.std.proofs.lemmas.Iterator.Search.{find_from_yields_List}
 use Rattle.std.specs.Str.{bytes_eq}
 use Rattle.rt_filter.proofs.checking.named.Goals as goal
 
-pub returns-clause-found : goal.returns-clause-found
-returns-clause-found c =
+pub returns : goal.returns
+returns c =
     find_from_yields_List (λ p. bytes_eq p.1.name c.args.name.now) _ _ _ c.find.ensures.ran
     (YieldsList-from_enumerate (YieldsList-from_slice c.args.columns.now (cc)) (cc)) (λ x b q k. search (rules, tests))

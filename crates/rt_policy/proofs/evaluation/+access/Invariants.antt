@@ -2,9 +2,8 @@ use Rattle.std.proofs.Common.{◌≡◌, ◌||◌, drop, map, List}
 use Rattle.std.specs.List.{list_any, position_from}
 use Rattle.std.specs.Option.{option_copied, option_or}
 use Rattle.rt_policy.specs.declared.judge.Judge.{Judge}
-use Rattle.rt_policy.specs.Lent.{value_of}
-use Rattle.rt_policy.specs.Truth.{one_of, or_of, and_of, all_of, any_of}
-use Rattle.rt_policy.specs.Worth.{worth, who_of, shows}
+use Rattle.rt_policy.specs.Joining.{joined, combined}
+use Rattle.rt_policy.specs.Worth.{Place, worth, who_of, shows}
 use Rattle.rt_policy.specs.Visibility.{view_of, applies, permits, refuses}
 use Rattle.rt_policy.proofs.Measure.{work_of, list_work, exists_work, judge_work, sees_work}
 use Rattle.rt_policy.proofs.evaluation.+access.Given as goal
@@ -21,14 +20,8 @@ decreases-seen g l = sees_work l.rules.now.tables l.table
 abbrev pub decreases-worth_in : goal.decreases-worth_in
 decreases-worth_in g l = work_of l.rules.now.tables l.judge.now
 
-abbrev pub decreases-equals_one : goal.decreases-equals_one
-decreases-equals_one g l = list_work l.rules.now.tables l.judges.now
-
-abbrev pub decreases-every : goal.decreases-every
-decreases-every g l = list_work l.rules.now.tables l.judges.now
-
-abbrev pub decreases-some : goal.decreases-some
-decreases-some g l = list_work l.rules.now.tables l.judges.now
+abbrev pub decreases-joined : goal.decreases-joined
+decreases-joined g l = list_work l.rules.now.tables l.judges.now
 
 -- the answer on what the walk has left is the answer on all rows
 abbrev pub invariant-exists-loop-row : goal.invariant-exists-loop-row
@@ -48,29 +41,20 @@ invariant-judge_all-loop-n g l =
     let who = who_of l.caller in
     let view = view_of l.rules.tables who (g.D.Db.rows l.db) in
     let policies = l.entry.policies in
+    let permit = permits who view l.row in
+    let refuse = refuses who view l.row in
     record {
       applied : (l.applied || list_any (applies who) (drop l.n policies)) ≡ list_any (applies who) policies;
-      permitted : (l.permitted || list_any (permits who view l.row) (drop l.n policies)) ≡ list_any (permits who view l.row) policies;
-      refused : option_or l.refused (position_from (refuses who view l.row) l.n (drop l.n policies)) ≡ position_from (refuses who view l.row) 0 policies;
+      permitted : (l.permitted || list_any permit (drop l.n policies)) ≡ list_any permit policies;
+      refused : option_or l.refused (position_from refuse l.n (drop l.n policies)) ≡ position_from refuse 0 policies;
     }
 
-abbrev pub invariant-equals_one-loop-judge : goal.invariant-equals_one-loop-judge
-invariant-equals_one-loop-judge g l =
+-- what is known with what the expressions left give is what all give
+abbrev pub invariant-joined-loop-judge : goal.invariant-joined-loop-judge
+invariant-joined-loop-judge g l =
     let who = who_of l.caller in
     let view = view_of l.rules.tables who (g.D.Db.rows l.db) in
-    let values = λ (js : List Judge). map (λ j. worth who view j (record { outer = l.outer; inner = option_copied l.inner })) js in
-    or_of l.known (one_of (value_of l.side) (values (drop l.judge-index l.judges))) ≡ one_of (value_of l.side) (values l.judges)
-
-abbrev pub invariant-every-loop-judge : goal.invariant-every-loop-judge
-invariant-every-loop-judge g l =
-    let who = who_of l.caller in
-    let view = view_of l.rules.tables who (g.D.Db.rows l.db) in
-    let values = λ (js : List Judge). map (λ j. worth who view j (record { outer = l.outer; inner = option_copied l.inner })) js in
-    and_of l.known (all_of (values (drop l.judge-index l.judges))) ≡ all_of (values l.judges)
-
-abbrev pub invariant-some-loop-judge : goal.invariant-some-loop-judge
-invariant-some-loop-judge g l =
-    let who = who_of l.caller in
-    let view = view_of l.rules.tables who (g.D.Db.rows l.db) in
-    let values = λ (js : List Judge). map (λ j. worth who view j (record { outer = l.outer; inner = option_copied l.inner })) js in
-    or_of l.known (any_of (values (drop l.judge-index l.judges))) ≡ any_of (values l.judges)
+    let at : Place = record { outer = l.outer; inner = option_copied l.inner } in
+    let values = λ (js : List Judge). map (λ j. worth who view j at) js in
+    combined l.joining l.known (joined l.joining (values (drop l.judge-index l.judges)))
+    ≡ joined l.joining (values l.judges)
