@@ -61,6 +61,8 @@ module _ (c : Catalog) (s : Settings) where
     pub subs : List Subscription
     pub some : 0 < length subs
     pub each : All (IsSentBy before changes change slot role) subs
+    -- each is the channel's that is told, not only its slot's
+    pub own : All (λ (sub : Subscription). sub.channel ≡ member.channel.number) subs
     pub is : m ≡ change_message (view_of member) (map (λ x. x.id) subs) (shape_of c role s.max_record change)
     -- it shows values only where every one of these subscriptions has the verdict Deliver, and of columns alone that the role may SELECT
     pub shows : (part : List ℕ) (tree : Json) → IsRecordName part → member_of (shape_of c role s.max_record change) part ≡ Some tree

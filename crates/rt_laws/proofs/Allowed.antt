@@ -160,7 +160,7 @@ module _ (c : Catalog) (s : Settings) where
   abbrev Polled : List Input → Input → ℕ → Message → Type 0
   Polled before i slot m = (changes : List Change) × (i ≡ Poll changes) × IsDueBy c s before changes slot m
 
-  polled : (before : List Input) (i : Input) (slot : ℕ) (m : Message) → Among (answers c s before i) (slot, a.Says m)
+  pub polled : (before : List Input) (i : Input) (slot : ℕ) (m : Message) → Among (answers c s before i) (slot, a.Says m)
       → Shape (fine_for i) (length (story c s before)) (ids_given (story c s before)) (members_in (story c s before))
       (doings c s (now_of (story c s before)) (tables_left c (story c s before) i) i)
       → m.event ≡ codes "postgres_changes" → Polled before i slot m

@@ -82,6 +82,9 @@ module _ (c : Catalog) (s : Settings) (st : Story) (h : Shaped st) (tables : Lis
         parts.2,
       )
 
+  abbrev IsOf : ℕ → Subscription → Type 0
+  IsOf channel sub = sub.channel ≡ channel
+
   -- what a message of a poll was due by
   record Told (changes : List Change) (slot : ℕ) (m : Message) : Type 0 where
     change : Change
@@ -91,14 +94,15 @@ module _ (c : Catalog) (s : Settings) (st : Story) (h : Shaped st) (tables : Lis
     subs : List Subscription
     some : 0 < length subs
     each : AllOf (Gets change slot member.standing.role) subs
+    own : AllOf (IsOf member.channel.number) subs
     is : m ≡ change_message (view_of member) (map (λ (x : Subscription). x.id) subs) (shape_of c member.standing.role s.max_record change)
 
   told_by : (changes : List Change) (slot : ℕ) (m : Message) (ch : Change) (to : ChannelView) (g : Member) (fs : List Subscription) → Among changes ch
       → Among (members_in st) g → view_of g ≡ to
-      → AllOf (Gets ch to.slot g.standing.role) fs → (p : Part) → Among (change_parts c s to ch fs) p → answer_of p ≡ Some (slot, Says m) → Told changes slot m
-  told_by changes slot m ch to g [] a k v all p x e = absurd x
-  told_by changes slot m ch to g (sub ∷ more) a k v all p (inr x) e = absurd x
-  told_by changes slot m ch to g (sub ∷ more) a k v all p (inl x) e =
+      → AllOf (Gets ch to.slot g.standing.role) fs → AllOf (IsOf g.channel.number) fs → (p : Part) → Among (change_parts c s to ch fs) p → answer_of p ≡ Some (slot, Says m) → Told changes slot m
+  told_by changes slot m ch to g [] a k v all own p x e = absurd x
+  told_by changes slot m ch to g (sub ∷ more) a k v all own p (inr x) e = absurd x
+  told_by changes slot m ch to g (sub ∷ more) a k v all own p (inl x) e =
       let ids = map (λ (y : Subscription). y.id) (sub ∷ more) in
       let words : ChannelView → ℕ → Message = λ view role. change_message view ids (shape_of c role s.max_record ch) in
       let said : Some (to.slot, Says (words to sub.role)) ≡ Some (slot, Says m) = ap answer_of x ∙ e in
@@ -113,6 +117,7 @@ module _ (c : Catalog) (s : Settings) (st : Story) (h : Shaped st) (tables : Lis
         subs = sub ∷ more;
         some = omega arith;
         each = subst P at all;
+        own = own;
         is = sym is ∙ ap (words to) all.0.3 ∙ ap (λ view. words view g.standing.role) (sym v);
       }
 
@@ -132,7 +137,12 @@ module _ (c : Catalog) (s : Settings) (st : Story) (h : Shaped st) (tables : Lis
       let t : gets c s tables ch g.channel.number sub ≡ true = ap (λ n. gets c s tables ch n sub) number ∙ f.1 in
       let P : ℕ → Type 0 = λ n. Gets ch n g.standing.role sub in
       subst P slots (gets_own ch g sub k.1 f.0 t)) (all_themselves fs) in
-      told_by changes slot m ch r.0 g fs a k.1 k.2 all p r.2 e
+      let own : AllOf (IsOf g.channel.number) fs = all_weaker (Among fs) (IsOf g.channel.number) fs
+      (λ sub y.
+      let f = among_filter (gets c s tables ch r.0.channel) subs sub y in
+      let mine = and_parts (sub.channel == r.0.channel) (is_of_table c ch.table sub) (is_sent (verdict_of c (rows_of_table tables) sub ch)) f.1 in
+      same_number sub.channel r.0.channel mine.0 ∙ sym number) (all_themselves fs) in
+      told_by changes slot m ch r.0 g fs a k.1 k.2 all own p r.2 e
 
   change_tells : (changes : List Change) (slot : ℕ) (m : Message) (ch : Change) → Among changes ch → (p : Part) → answer_of p ≡ Some (slot, Says m)
       → (t : Bool)
@@ -200,6 +210,7 @@ module _ (c : Catalog) (s : Settings) where
               of_role = g.3;
               sent = g.4;
             }) t.each);
+        own = all_from (λ (sub : Subscription). sub.channel ≡ t.member.channel.number) t.subs t.own;
         is = t.is;
         shows = λ part tree name e.
             let f = shape_shows c s role s.max_record t.change part tree name e in (

@@ -6,7 +6,8 @@ mod Clients
 mod Columns
 mod Doing
 mod Due
-pub mod Fans
+mod Exactly
+mod Fans
 pub mod Fitting
 mod Follows
 mod Frames

@@ -2,6 +2,7 @@ pub mod After
 pub mod Audited
 pub mod Changes
 pub mod Departures
+pub mod Exact
 pub mod Fan
 pub mod Follows
 pub mod Ids

@@ -2,6 +2,7 @@
 #![tactic(auto)]
 
 mod access;
+mod exact;
 mod lanes;
 mod presence;
 mod private;
@@ -10,6 +11,7 @@ mod steps;
 mod stories;
 
 pub use access::{audit_decides, changes_are_allowed, given_is_allowed, verdicts_are_one};
+pub use exact::{cuts_are_put, lanes_grow, only_polls_tell_changes};
 pub use lanes::{entries_give, lanes_fan_out, marks_stay, stops_are_marked};
 pub use presence::{
     answers_are_readable, clients_agree, clients_follow, departures_are_told, given_clients_agree,
