@@ -1,8 +1,9 @@
 -- The message of a tree, from its parts.
 use Rattle.std.proofs.Common.{◌≡◌, ℕ, List, [], ◌∷◌, ◌++◌, Option, Some, None, refl, ap, sym, ◌∙◌}
-use Rattle.std.specs.Prelude.{codes}
+use Rattle.std.specs.Prelude.{codes, unwrap_or, option_map}
+use Rattle.std.specs.Option.{option_zip}
 use Rattle.rt_value.specs.Choice.{◌>>=◌}
-use Rattle.rt_json.specs.declared.tree.Json.{Json}
+use Rattle.rt_json.specs.declared.tree.Json.{Json, Null}
 use Rattle.rt_json.specs.declared.tree.Json.TheVariants as j
 use Rattle.rt_json.specs.declared.tree.named.Member.{Member}
 use Rattle.rt_json.specs.Lookup.{last_named, or_else}
@@ -10,7 +11,7 @@ use Rattle.rt_json.specs.Trees.{text_of, list_of}
 use Rattle.rt_json.proofs.Lookups.{object_members, list_items}
 use Rattle.rt_phx.specs.declared.message.Message.{Message}
 use Rattle.rt_phx.specs.declared.parts.Parts.{Parts}
-use Rattle.rt_phx.specs.Frame.{message, message_of_object, message_of_five, ref_of}
+use Rattle.rt_phx.specs.Frame.{message, message_of_object, message_of_five, ref_of, no_members}
 use Rattle.rt_phx.specs.Parts.{value_under, parts_among, parts_with, parts_in_five, message_of_parts}
 
 -- a member more at the end of an object
@@ -59,6 +60,30 @@ in_order None r None e payload = refl
 pub five_says : (xs : List Json) → message_of_five xs ≡ (parts_in_five xs >>= message_of_parts)
 five_says (join_ref ∷ reference ∷ topic ∷ event ∷ payload ∷ []) = in_order (ref_of join_ref) (ref_of reference) (text_of topic) (text_of event) payload
 five_says _ = refl
+
+-- the message of texts and refs, where all are there
+abbrev pub of_both : Json → Option ((List ℕ × List ℕ) × (Json × Json)) → Option Message
+of_both payload both = option_map (λ (b : (List ℕ × List ℕ) × (Json × Json)). message b.1.0 b.1.1 b.0.0 b.0.1 payload) both
+
+in_turn : (topic event : Option (List ℕ)) (join_ref reference : Option Json) (payload : Json)
+    → of_both payload (option_zip (option_zip topic event) (option_zip join_ref reference))
+    ≡ (topic >>= λ t. event >>= λ e. join_ref >>= λ j. reference >>= λ r. Some (message j r t e payload))
+in_turn (Some t) (Some e) (Some j) (Some r) payload = refl
+in_turn (Some t) (Some e) (Some j) None payload = refl
+in_turn (Some t) (Some e) None r payload = refl
+in_turn (Some t) None j r payload = refl
+in_turn None e j r payload = refl
+
+pub parts_say : (p : Parts) (payload : Json) (topic event : Option (List ℕ)) (join_ref reference : Option Json)
+    (texts : Option (List ℕ × List ℕ)) (refs : Option (Json × Json)) (both : Option ((List ℕ × List ℕ) × (Json × Json)))
+    → topic ≡ (p.topic >>= text_of) → event ≡ (p.event >>= text_of)
+    → join_ref ≡ ref_of (unwrap_or p.join_ref Null) → reference ≡ ref_of (unwrap_or p.reference Null)
+    → payload ≡ unwrap_or p.payload no_members
+    → texts ≡ option_zip topic event → refs ≡ option_zip join_ref reference → both ≡ option_zip texts refs
+    → of_both payload both ≡ message_of_parts p
+parts_say p payload topic event join_ref reference texts refs both t e j r y ts rs b =
+    ap (of_both payload) (b ∙ ap (λ (o : Option (List ℕ × List ℕ)). option_zip o refs) ts ∙ ap (option_zip (option_zip topic event)) rs)
+    ∙ in_turn topic event join_ref reference payload ∙ rw (t, e, j, r, y)
 
 pub object_result : (r : Option Message) (tree : Json) (ms ns : List Member) (p : Parts) → tree ≡ j.Object ms → ns ≡ ms → p ≡ parts_among ns → r ≡ message_of_parts p → r ≡ message_of_object tree
 object_result r tree ms ns p e f g h =

@@ -9,11 +9,11 @@ impl Message {
         ensures { IfOk result (λ copy. copy ≡ self.now) }
     {
         Ok(Message {
-            join_ref: self.join_ref.copy(alloc)?,
-            reference: self.reference.copy(alloc)?,
             topic: self.topic.copy(alloc)?,
             event: self.event.copy(alloc)?,
             payload: self.payload.copy(alloc)?,
+            join_ref: self.join_ref.copy(alloc)?,
+            reference: self.reference.copy(alloc)?,
         })
     }
 }

@@ -9,8 +9,6 @@ mod fault;
 mod message;
 mod parts;
 pub mod saying;
-#[cfg(test)]
-mod tests;
 pub mod trees;
 
 pub use decoding::{decode, one_message};

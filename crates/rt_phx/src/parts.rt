@@ -26,23 +26,23 @@ impl Parts {
         let Member { name, value } = member;
         match name.get() {
             "topic" => Parts {
-                topic: Some(value),
+                topic: later(self.topic, value),
                 ..self
             },
             "event" => Parts {
-                event: Some(value),
+                event: later(self.event, value),
                 ..self
             },
             "payload" => Parts {
-                payload: Some(value),
+                payload: later(self.payload, value),
                 ..self
             },
             "ref" => Parts {
-                reference: Some(value),
+                reference: later(self.reference, value),
                 ..self
             },
             "join_ref" => Parts {
-                join_ref: Some(value),
+                join_ref: later(self.join_ref, value),
                 ..self
             },
             _ => self,
@@ -99,11 +99,10 @@ impl Parts {
             reference,
             join_ref,
         } = self;
-        let topic = text_in(topic)?;
-        let event = text_in(event)?;
-        let join_ref = ref_in(join_ref)?;
-        let reference = ref_in(reference)?;
+        let texts = text_in(topic).zip(text_in(event));
+        let refs = ref_in(join_ref).zip(ref_in(reference));
         let payload = payload.unwrap_or(Json::Object(List::new(Vec::new(alloc))));
+        let ((topic, event), (join_ref, reference)) = texts.zip(refs)?;
         Some(Message {
             join_ref,
             reference,
@@ -133,4 +132,11 @@ fn ref_in(tree: Option<Json>) -> Option<Json>
         Json::Num(digits) => Some(Json::Num(digits)),
         _ => None,
     }
+}
+
+/// The later of two values under one name.
+fn later(_former: Option<Json>, value: Json) -> Option<Json>
+    ensures { result ≡ Some value }
+{
+    Some(value)
 }

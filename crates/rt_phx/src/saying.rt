@@ -10,6 +10,25 @@ use rt_json::Json;
 use rt_value::{List, Text};
 use std::alloc::{AllocError, Global};
 
+/// A message whose payload is null.
+fn head(
+    alloc: Global,
+    join_ref: &Json,
+    reference: &Json,
+    topic: &str,
+    event: &str,
+) -> Result<Message, AllocError>
+    ensures { IfOk result (λ m. m ≡ message join_ref.now reference.now topic.now event.now Json.Null) }
+{
+    Ok(Message {
+        topic: Text::new(String::from_str(alloc, topic)?),
+        event: Text::new(String::from_str(alloc, event)?),
+        payload: Json::Null,
+        join_ref: join_ref.copy(alloc)?,
+        reference: reference.copy(alloc)?,
+    })
+}
+
 fn message(
     alloc: Global,
     join_ref: &Json,
@@ -20,17 +39,8 @@ fn message(
 ) -> Result<Message, AllocError>
     ensures { IfOk result (λ m. m ≡ message join_ref.now reference.now topic.now event.now payload) }
 {
-    let join_ref = join_ref.copy(alloc)?;
-    let reference = reference.copy(alloc)?;
-    let topic = Text::new(String::from_str(alloc, topic)?);
-    let event = Text::new(String::from_str(alloc, event)?);
-    Ok(Message {
-        join_ref,
-        reference,
-        topic,
-        event,
-        payload,
-    })
+    let head = head(alloc, join_ref, reference, topic, event)?;
+    Ok(Message { payload, ..head })
 }
 
 fn reply_to(
