@@ -82,12 +82,7 @@ fn write_item(item: Option<usize>, answer: &mut String) -> io::Result<()> {
 }
 
 /// Takes the steps, which are parted by `, `, and says what each answers.
-pub fn answer<R: Wait>(
-    rt: &R,
-    alloc: Global,
-    capacity: usize,
-    steps: &str,
-) -> io::Result<String> {
+pub fn answer<R: Wait>(rt: &R, alloc: Global, capacity: usize, steps: &str) -> io::Result<String> {
     if capacity == 0 {
         return Err(io::ErrorKind::InvalidInput.into());
     }
