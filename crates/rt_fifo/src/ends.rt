@@ -1,4 +1,5 @@
 //! The two ends of a queue.
+ghost use Rattle.std.specs.Arc.{arc_value};
 ghost use Rattle.std.specs.Prelude.{◌≡◌, ◌<◌, ◌≤◌, [], ◌∷◌, ◌++◌, length, IfOk, OnOk, OnErr, IfErr, IfSome, IfNone};
 
 use crate::rule::{Line, LinePass, Popped, Pushed, Roles};
@@ -66,16 +67,26 @@ pub fn make<T: Drop>(alloc: Global, capacity: usize) -> Result<(Tx<T>, Rx<T>), A
     ensures empty { IfOk result (λ ends. (ends.0.sent ≡ []) × (ends.1.received ≡ [])) }
 {
     let (queue, mut pass) = Line::ruled(alloc, capacity)?;
+    let other = queue.another::<Roles>(&mut pass);
+    let (line, theirs) = shared(alloc, queue)?;
+    let tx = Tx { line, pass };
+    let rx = Rx {
+        line: theirs,
+        pass: other,
+    };
+    Ok((tx, rx))
+}
+
+// The queue with two owners.
+fn shared<T: Drop>(
+    alloc: Global,
+    queue: Line<T>,
+) -> Result<(Arc<Line<T>, Global>, Arc<Line<T>, Global>), AllocError>
+    ensures { IfOk result (λ both. (arc_value both.0 ≡ queue) × (arc_value both.1 ≡ queue)) }
+{
     let line = Arc::new(alloc, queue)?;
     let theirs = Arc::try_clone(&line)?;
-    let other = line.another::<Roles>(&mut pass);
-    Ok((
-        Tx { line, pass },
-        Rx {
-            line: theirs,
-            pass: other,
-        },
-    ))
+    Ok((line, theirs))
 }
 
 impl<T> Tx<T> {
