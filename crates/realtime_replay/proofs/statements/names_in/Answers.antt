@@ -4,8 +4,7 @@ use Rattle.realtime_replay.proofs.Once.{grant_of, grant_once, role_once, table_o
 use Rattle.realtime_replay.proofs.statements.names_in.Goals as goal
 
 pub returns-in_err-table : goal.returns-in_err-table
-returns-in_err-table c = rw c.from_residual.ensures
-    (λ m a s b t k r h. c.in_err-table.ensures m a s b t k _ h.table_is h.columns_are h.are)
+returns-in_err-table c = rw c.from_residual.ensures (λ m a s b t k r h. c.in_err-table.ensures m a s b t k _ h.table_is h.columns_are h.are)
 
 pub returns-in_err-role : goal.returns-in_err-role
 returns-in_err-role c = rw c.from_residual-in_err-role.ensures (λ m a s b t k r h.
