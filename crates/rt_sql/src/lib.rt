@@ -6,8 +6,6 @@ mod laws;
 mod lexeme;
 mod piece;
 mod scan;
-#[cfg(test)]
-mod tests;
 
 pub use fault::SqlFault;
 pub use laws::{front_is_cut, one_cut, one_fault, quotes_keep, tokens_of_the_text};
