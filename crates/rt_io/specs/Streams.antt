@@ -18,8 +18,9 @@ abbrev pub ReadTakes : Option (List ℕ) → Option (List ℕ) → Read → List
 ReadTakes old new (r.Bytes n) buf = (n ≤ length buf) × Takes old new n buf
 ReadTakes old new r.Failed buf = new ≡ old
 
+-- an answer with bytes leaves the count of faults, and a fault is counted
 abbrev pub ReadCause : ℕ → ℕ → Read → Type 0
-ReadCause before now (r.Bytes n) = before ≤ now
+ReadCause before now (r.Bytes n) = now ≡ before
 ReadCause before now r.Failed = (before ≤ now) × Rose before now
 
 -- the bytes stand behind those that were held
@@ -31,6 +32,7 @@ abbrev pub WritePuts : Option (List ℕ) → Option (List ℕ) → Wrote → Lis
 WritePuts old new (w.Bytes n) piece = (n ≤ length piece) × (0 < length piece → 0 < n) × Puts old new (take n piece)
 WritePuts old new w.Failed piece = new ≡ old
 
+-- as of a read
 abbrev pub WriteCause : ℕ → ℕ → Wrote → Type 0
-WriteCause before now (w.Bytes n) = before ≤ now
+WriteCause before now (w.Bytes n) = now ≡ before
 WriteCause before now w.Failed = (before ≤ now) × Rose before now

@@ -13,11 +13,11 @@ abbrev pub TakesFront : Option (List ℕ) → Option (List ℕ) → Type 0
 TakesFront (Some left) new = (front : List ℕ) × (rest : List ℕ) × (left ≡ front ++ rest) × (new ≡ Some rest)
 TakesFront None new = Unit {0}
 
--- when each fault comes
+-- when each fault comes, and that the count of faults is what it was where the source didn't fail
 abbrev pub ReadAllCause : Option (List ℕ) → ℕ → ℕ → ℕ → ReadAllFault → Type 0
-ReadAllCause old before now limit NoMemory = Unit {0}
+ReadAllCause old before now limit NoMemory = now ≡ before
 ReadAllCause old before now limit ReadFault = Rose before now
-ReadAllCause old before now limit (TooLong most) = (most ≡ limit) × IfSome old (λ left. limit < length left)
+ReadAllCause old before now limit (TooLong most) = (most ≡ limit) × IfSome old (λ left. limit < length left) × (now ≡ before)
 
 -- some first bytes were put
 abbrev pub PutsFront : Option (List ℕ) → Option (List ℕ) → List ℕ → Type 0

@@ -18,7 +18,8 @@ pub trait Source {
     /// How often it has failed, a number that never falls.
     ghost faults: { Self → ℕ };
 
-    /// Takes the first bytes that are left into the beginning of the buffer, at most as many as it holds.
+    /// Takes the first bytes that are left into the beginning of the buffer, at most as many as it holds. A source that
+    /// tries again after a failure of its own and then answers bytes counts no fault.
     fn read(&mut self, buf: &mut [u8]) -> Read
         ensures bytes { ReadTakes (left self.old) (left self.new) result buf.new }
         ensures cause { ReadCause (faults self.old) (faults self.new) result };
