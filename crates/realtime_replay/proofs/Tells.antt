@@ -6,12 +6,12 @@ use Rattle.rt_io.specs.Streams.{Puts}
 use Rattle.rt_io.specs.Whole.{PutsFront}
 use Rattle.rt_entry.specs.declared.input.Input.{Input}
 use Rattle.rt_first.specs.First.{AreInputsOf, GivenIsDue}
-use Rattle.rt_first.specs.Output.{given}
-use Rattle.rt_first.specs.Printed.{printed}
-use Rattle.rt_first.specs.Script.{IsScript}
-use Rattle.rt_first.specs.Statements.{IsCatalogue}
-use Rattle.rt_first.specs.declared.catalogue.Catalogue.{Catalogue}
-use Rattle.rt_first.specs.declared.script.Script.{Script}
+use Rattle.rt_form.specs.Output.{given}
+use Rattle.rt_form.specs.Printed.{printed}
+use Rattle.rt_form.specs.Script.{IsScript}
+use Rattle.rt_form.specs.Statements.{IsCatalogue}
+use Rattle.rt_form.specs.declared.catalogue.Catalogue.{Catalogue}
+use Rattle.rt_form.specs.declared.script.Script.{Script}
 use Rattle.realtime_replay.specs.Answers.{AreOfForm, Befell, Flow, Gave, HasCatalogue, HasFailed, HasNoCatalogue}
 use Rattle.realtime_replay.specs.Answers.{HasNoScript, IsCalm, IsComplete, IsTooLong, IsUntouched, Means, Ran}
 use Rattle.realtime_replay.specs.Answers.{RanInPart, RunTells, Tells, due_bytes, most_bytes, no_command, not_built}
@@ -19,15 +19,15 @@ use Rattle.realtime_replay.specs.Answers.{runs}
 use Rattle.realtime_replay.specs.Faults.{of_form, status_of}
 use Rattle.realtime_replay.specs.Parts.{HasOne, HasScript, LacksScript, SourceTells}
 use Rattle.realtime_replay.specs.Words.{IsCommand, NoCommand}
-use Rattle.realtime_replay.specs.declared.fault.FormFault.{FormFault}
-use Rattle.realtime_replay.specs.declared.fault.FormFault.TheVariants as form
+use Rattle.rt_form.specs.declared.fault.FormFault.{FormFault}
+use Rattle.rt_form.specs.declared.fault.FormFault.TheVariants as form
 use Rattle.realtime_replay.specs.declared.fault.RunFault.{RunFault}
 use Rattle.realtime_replay.specs.declared.fault.RunFault.TheVariants as f
 use Rattle.realtime_replay.specs.declared.status.Status.{Status}
 use Rattle.realtime_replay.specs.declared.status.Status.TheVariants as s
 use Rattle.realtime_replay.specs.declared.words.Command.{Command}
 use Rattle.realtime_replay.specs.declared.words.Command.TheVariants.{Replay, Audit, Check, Generate}
-use Rattle.realtime_replay.proofs.Once.{cons_twice, other_byte}
+use Rattle.rt_form.proofs.Once.{cons_twice, other_byte}
 
 pub other_fault : form.NotBuilt ≢ form.NoMemory
 other_fault e = cc

@@ -8,10 +8,10 @@ use Rattle.rt_entry.specs.declared.input.Input.{Input}
 use Rattle.rt_script.specs.Reading.{default_settings}
 use Rattle.rt_script.specs.Running.{printed_due}
 use Rattle.rt_first.specs.First.{catalog_of, AreInputsOf}
-use Rattle.rt_first.specs.Script.{IsScript}
-use Rattle.rt_first.specs.Statements.{IsCatalogue}
-use Rattle.rt_first.specs.declared.catalogue.Catalogue.{Catalogue}
-use Rattle.rt_first.specs.declared.script.Script.{Script}
+use Rattle.rt_form.specs.Script.{IsScript}
+use Rattle.rt_form.specs.Statements.{IsCatalogue}
+use Rattle.rt_form.specs.declared.catalogue.Catalogue.{Catalogue}
+use Rattle.rt_form.specs.declared.script.Script.{Script}
 use Rattle.realtime_replay.specs.Words.{IsCommand, NoCommand}
 use Rattle.realtime_replay.specs.declared.words.Command.{Command}
 use Rattle.realtime_replay.specs.declared.words.Command.TheVariants.{Replay}

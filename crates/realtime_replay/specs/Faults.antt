@@ -1,19 +1,12 @@
 -- What a fault of a part means for the run, and for its status.
 use Rattle.rt_io.specs.declared.whole.ReadAllFault.{ReadAllFault}
 use Rattle.rt_io.specs.declared.whole.ReadAllFault.TheVariants as reading
-use Rattle.rt_json.specs.declared.fault.JsonFault.{JsonFault}
-use Rattle.rt_json.specs.declared.fault.JsonFault.TheVariants as json
-use Rattle.realtime_replay.specs.declared.fault.FormFault.{FormFault}
-use Rattle.realtime_replay.specs.declared.fault.FormFault.TheVariants as form
+use Rattle.rt_form.specs.declared.fault.FormFault.{FormFault}
+use Rattle.rt_form.specs.declared.fault.FormFault.TheVariants as form
 use Rattle.realtime_replay.specs.declared.fault.RunFault.{RunFault}
 use Rattle.realtime_replay.specs.declared.fault.RunFault.TheVariants as f
 use Rattle.realtime_replay.specs.declared.status.Status.{Status}
 use Rattle.realtime_replay.specs.declared.status.Status.TheVariants as s
-
-abbrev pub of_json : JsonFault → FormFault
-of_json (json.Bad at) = form.NotBuilt
-of_json (json.TooDeep at) = form.NotBuilt
-of_json json.NoMemory = form.NoMemory
 
 abbrev pub of_form : FormFault → RunFault
 of_form form.NoMemory = f.NoMemory

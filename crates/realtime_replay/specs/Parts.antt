@@ -1,9 +1,9 @@
 -- What the parts of a run make of one source.
 use Rattle.std.specs.Prelude.{◌≡◌, List, ℕ}
-use Rattle.rt_first.specs.Script.{IsScript}
-use Rattle.rt_first.specs.Statements.{IsCatalogue}
-use Rattle.rt_first.specs.declared.catalogue.Catalogue.{Catalogue}
-use Rattle.rt_first.specs.declared.script.Script.{Script}
+use Rattle.rt_form.specs.Script.{IsScript}
+use Rattle.rt_form.specs.Statements.{IsCatalogue}
+use Rattle.rt_form.specs.declared.catalogue.Catalogue.{Catalogue}
+use Rattle.rt_form.specs.declared.script.Script.{Script}
 use Rattle.realtime_replay.specs.Answers.{Flow, Gave, HasCatalogue, HasFailed, IsTooLong}
 use Rattle.realtime_replay.specs.declared.fault.RunFault.{RunFault}
 use Rattle.realtime_replay.specs.declared.fault.RunFault.TheVariants as f

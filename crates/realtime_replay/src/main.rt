@@ -1,23 +1,12 @@
 //! Replays a recorded stream over a catalogue and says what each socket gets.
 #![tactic(auto)]
 
-mod catalogue;
 mod fault;
-mod insert;
-mod join;
-mod lexing;
-mod messages;
-mod numbers;
 mod places;
-mod printing;
 mod replaying;
-mod script;
-mod shapes;
-mod statements;
 mod status;
 #[cfg(test)]
 mod tests;
-mod trees;
 mod words;
 
 use places::open_script;

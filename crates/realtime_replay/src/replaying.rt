@@ -1,7 +1,7 @@
 ghost use Rattle.std.specs.Prelude.{◌≡◌, ◌≢◌, map, List, ℕ, IfErr, IfOk, OnOk};
 ghost use Rattle.std.specs.IoError.{error_kind};
-ghost use Rattle.rt_first.specs.Output.{given};
-ghost use Rattle.rt_first.specs.Printed.{printed};
+ghost use Rattle.rt_form.specs.Output.{given};
+ghost use Rattle.rt_form.specs.Printed.{printed};
 ghost use Rattle.realtime_replay.specs.Answers.{HasNoCatalogue, IsCalm, IsComplete, Ran, RunTells};
 ghost use Rattle.realtime_replay.specs.Answers.{Said, Tells, flow, line_of};
 ghost use Rattle.realtime_replay.specs.Faults as faults;
@@ -9,15 +9,12 @@ ghost use Rattle.realtime_replay.specs.Parts.{HasOne, HasScript, LacksScript, So
 ghost use Rattle.realtime_replay.specs.Words.{IsCommand, NoCommand};
 ghost use Rattle.realtime_replay.specs.declared.words.Command.{Command};
 
-use crate::catalogue::read_catalogue;
 use crate::fault::RunFault;
-use crate::messages::{change, join_reply, subscribed};
-use crate::printing::print_slot;
-use crate::script::read_script;
 use crate::status::{Status, status_of, status_without_words};
 use crate::words::command_of;
 use rt_first::laws::given_is_due;
-use rt_first::{Catalogue, Script};
+use rt_form::{Catalogue, Script};
+use rt_form::{change, join_reply, print_slot, read_catalogue, read_script, subscribed};
 use rt_io::{Sink, Source, read_all, write_all};
 use rt_value::Bytes;
 use std::alloc::{AllocError, Global};

@@ -1,7 +1,7 @@
 ghost use Rattle.std.specs.Prelude.{◌≡◌, ◌↔◌, map, IsTrue, MatchOption, List, ℕ, false, ◌∷◌, []};
 ghost use Rattle.realtime_replay.specs.Words.{IsCommand, NoCommand, is_option};
 
-use crate::numbers::number_of;
+use rt_form::number_of;
 
 /// What the program can be asked for.
 #[derive(Clone, Copy, Debug, PartialEq, Eq)]

@@ -15,7 +15,7 @@ use Rattle.rt_registry.specs.declared.fault.BindingWhy.TheVariants as why
 use Rattle.rt_registry.specs.declared.fault.RegistryFault.{RegistryFault}
 use Rattle.rt_registry.specs.declared.fault.RegistryFault.TheVariants.{UnknownRole}
 use Rattle.rt_registry.specs.Bindings.{◌>>◌, or_err, table_for, test_for, meaning_of_binding, at_count, all_from, within_limit, bindings_for}
-use Rattle.rt_first.specs.declared.catalogue.Column.{Column}
+use Rattle.rt_form.specs.declared.catalogue.Column.{Column}
 use Rattle.rt_first.proofs.Bytes.{same_name}
 use Rattle.rt_first.proofs.Binds.{table_found}
 use Rattle.rt_first.proofs.Claims.{held_by}

@@ -18,7 +18,7 @@ use Rattle.rt_change.specs.declared.fault.ChangeFault.{ChangeFault}
 use Rattle.rt_change.specs.declared.fault.ChangeFault.TheVariants.{KeyDiffers, ColumnUnknown, BadValue}
 use Rattle.rt_change.specs.Binding.{◌>>◌, or_fault, value_of, tree_for, column_named, fields_fit, cell_for, cells_for, given, no_name, name_at, keys_differ, key_given, change_with, bound_at, change_of}
 use Rattle.rt_first.specs.First.{kind_of, column_of}
-use Rattle.rt_first.specs.declared.catalogue.Column.{Column}
+use Rattle.rt_form.specs.declared.catalogue.Column.{Column}
 use Rattle.rt_first.proofs.Bytes.{same_name, other_name}
 use Rattle.rt_first.proofs.Form.{key_column, catalog_with, whole_table}
 use Rattle.rt_first.proofs.Inserts.{fields_with, entry_with}

@@ -27,8 +27,8 @@ use Rattle.rt_entry.specs.declared.story.Standing.{Standing}
 use Rattle.rt_entry.specs.declared.story.Channel.{Channel}
 use Rattle.rt_entry.specs.Story.{Now}
 use Rattle.rt_entry.specs.Joining.{Checked, ◌>>◌, demand, told_by, registry_text, channel_limit, standing_for, channel_of_join}
-use Rattle.rt_first.specs.Script.{join_tree, payload_tree}
-use Rattle.rt_first.specs.declared.catalogue.Column.{Column}
+use Rattle.rt_form.specs.Script.{join_tree, payload_tree}
+use Rattle.rt_form.specs.declared.catalogue.Column.{Column}
 use Rattle.rt_first.proofs.Binding.{binding_with, subscribed_with, role_found, bindings_found}
 use Rattle.rt_first.proofs.Claims.{held_by}
 use Rattle.rt_first.proofs.Form.{catalog_with}

@@ -7,7 +7,7 @@ use Rattle.rt_json.specs.declared.tree.Json.{Json}
 use Rattle.rt_json.proofs.Meaning.{tree_again}
 use Rattle.rt_token.specs.Claims.{claims_with, claims_in_tree}
 use Rattle.rt_script.specs.Reading.{claims_of_tree, claims_in}
-use Rattle.rt_first.specs.Script.{IsClaims, claims_tree}
+use Rattle.rt_form.specs.Script.{IsClaims, claims_tree}
 
 abbrev pub held_by : List ℕ → Claims
 held_by role = claims_with (claims_tree role) None role

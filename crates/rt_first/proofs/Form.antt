@@ -6,12 +6,12 @@ use Rattle.rt_json.specs.declared.tree.Json.TheVariants as j
 use Rattle.rt_catalog.specs.declared.catalog.Catalog.{Catalog}
 use Rattle.rt_catalog.specs.declared.catalog.Table.{Table as CatalogTable}
 use Rattle.rt_first.specs.First.{catalog_of, table_of}
-use Rattle.rt_first.specs.Script.{insert_tree}
-use Rattle.rt_first.specs.Statements.{key_place}
+use Rattle.rt_form.specs.Script.{insert_tree}
+use Rattle.rt_form.specs.Statements.{key_place}
 use Rattle.rt_json.specs.Trees.{field}
-use Rattle.rt_first.specs.declared.catalogue.Catalogue.{Catalogue}
-use Rattle.rt_first.specs.declared.catalogue.Column.{Column}
-use Rattle.rt_first.specs.declared.catalogue.Table.{Table}
+use Rattle.rt_form.specs.declared.catalogue.Catalogue.{Catalogue}
+use Rattle.rt_form.specs.declared.catalogue.Column.{Column}
+use Rattle.rt_form.specs.declared.catalogue.Table.{Table}
 
 abbrev pub key_column : Bool → Column → Column → Column
 key_column true first second = second

@@ -8,9 +8,9 @@ use Rattle.rt_json.specs.declared.tree.Json.{Json}
 use Rattle.rt_entry.specs.declared.input.Input.{Input}
 use Rattle.rt_script.specs.Reading.{default_settings}
 use Rattle.rt_first.specs.First.{kind_of, IsDue}
-use Rattle.rt_first.specs.Script.{IsClaims, join_tree, fits, text_limit}
-use Rattle.rt_first.specs.declared.catalogue.Column.{Column}
-use Rattle.rt_first.specs.declared.script.Script.{Script}
+use Rattle.rt_form.specs.Script.{IsClaims, join_tree, fits, text_limit}
+use Rattle.rt_form.specs.declared.catalogue.Column.{Column}
+use Rattle.rt_form.specs.declared.script.Script.{Script}
 use Rattle.rt_first.proofs.Binds.{change_is, bound_is}
 use Rattle.rt_first.proofs.Bytes.{other_name}
 use Rattle.rt_first.proofs.Channels.{channel_topic}

@@ -20,8 +20,8 @@ use Rattle.rt_entry.specs.declared.story.Part.TheVariants.{Tells, Joins}
 use Rattle.rt_entry.specs.Messages.{joined_response, subscribed_message}
 use Rattle.rt_entry.specs.Story.{Story, Line, joined, departed, members_at, ids_given, now_of, tables_left}
 use Rattle.rt_entry.specs.Doings.{tell, channel_on, join_result_parts, join_over_former, message_parts, frame_parts, doings, story}
-use Rattle.rt_first.specs.Script.{join_tree}
-use Rattle.rt_first.specs.declared.catalogue.Column.{Column}
+use Rattle.rt_form.specs.Script.{join_tree}
+use Rattle.rt_form.specs.declared.catalogue.Column.{Column}
 use Rattle.rt_first.proofs.Claims.{held_by}
 use Rattle.rt_first.proofs.Channels.{join_with, message_read, channel_with, channel_made}
 use Rattle.rt_first.proofs.Form.{catalog_with}

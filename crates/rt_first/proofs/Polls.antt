@@ -25,9 +25,9 @@ use Rattle.rt_entry.specs.Messages.{joined_response, subscribed_message, change_
 use Rattle.rt_entry.specs.Story.{Story, joined, departed, members_at, standing_at, now_of, tables_left}
 use Rattle.rt_entry.specs.Doings.{subscriptions, poll_parts, doings, story}
 use Rattle.rt_entry.specs.Answers.{Answers, answer_of, answers_by, answers, all_answers}
-use Rattle.rt_first.specs.Script.{join_tree}
-use Rattle.rt_first.specs.Messages.{inserted}
-use Rattle.rt_first.specs.declared.catalogue.Column.{Column}
+use Rattle.rt_form.specs.Script.{join_tree}
+use Rattle.rt_form.specs.Messages.{inserted}
+use Rattle.rt_form.specs.declared.catalogue.Column.{Column}
 use Rattle.rt_first.specs.First.{kind_of}
 use Rattle.rt_first.proofs.Binds.{change_is}
 use Rattle.rt_first.proofs.Claims.{held_by}

@@ -6,12 +6,12 @@ use Rattle.rt_json.specs.Grammar.{IsJson}
 use Rattle.rt_json.specs.declared.tree.Json.{Json}
 use Rattle.rt_json.specs.declared.tree.Json.TheVariants as j
 use Rattle.rt_first.specs.First.{IsDue, GivenIsDue}
-use Rattle.rt_first.specs.Lexing.{is_name}
-use Rattle.rt_first.specs.Script.{IsRowLine, AreSaid, insert_tree, join_tree}
-use Rattle.rt_first.specs.Statements.{key_place}
-use Rattle.rt_first.specs.declared.catalogue.Catalogue.{Catalogue}
-use Rattle.rt_first.specs.declared.catalogue.Column.{Column}
-use Rattle.rt_first.specs.declared.script.Script.{Script}
+use Rattle.rt_form.specs.Lexing.{is_name}
+use Rattle.rt_form.specs.Script.{IsRowLine, AreSaid, insert_tree, join_tree}
+use Rattle.rt_form.specs.Statements.{key_place}
+use Rattle.rt_form.specs.declared.catalogue.Catalogue.{Catalogue}
+use Rattle.rt_form.specs.declared.catalogue.Column.{Column}
+use Rattle.rt_form.specs.declared.script.Script.{Script}
 use Rattle.rt_first.proofs.Bytes.{other_name}
 use Rattle.rt_first.proofs.Form.{key_column, catalogue_with, row_tree}
 use Rattle.rt_first.proofs.Given.{script_with, AreTexts, due_by_texts}

@@ -14,8 +14,8 @@ use Rattle.rt_change.specs.declared.change.Change.{Change}
 use Rattle.rt_change.specs.Binding.{tree_for}
 use Rattle.rt_change.specs.Shape.{error_list, field_limit, shape_of}
 use Rattle.rt_first.specs.First.{kind_of, column_of}
-use Rattle.rt_first.specs.Messages.{column_tree, inserted}
-use Rattle.rt_first.specs.declared.catalogue.Column.{Column}
+use Rattle.rt_form.specs.Messages.{column_tree, inserted}
+use Rattle.rt_form.specs.declared.catalogue.Column.{Column}
 use Rattle.rt_first.proofs.Binds.{change_is, first_tree, second_tree}
 use Rattle.rt_first.proofs.Form.{catalog_with, table_with}
 use Rattle.rt_first.proofs.Inserts.{fields_with}

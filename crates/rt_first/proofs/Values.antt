@@ -16,10 +16,10 @@ use Rattle.rt_json.specs.Text.{IsNumber, IsMinus, IsWhole}
 use Rattle.rt_json.specs.declared.tree.Json.{Json, Num, Text}
 use Rattle.rt_change.specs.Binding.{begins_with_plus, value_of, given}
 use Rattle.rt_first.specs.First.{kind_of}
-use Rattle.rt_first.specs.Script as script
-use Rattle.rt_first.specs.Script.{without_minus, is_small_number}
-use Rattle.rt_first.specs.declared.catalogue.ColumnType.{ColumnType}
-use Rattle.rt_first.specs.declared.catalogue.ColumnType.TheVariants as type_
+use Rattle.rt_form.specs.Script as script
+use Rattle.rt_form.specs.Script.{without_minus, is_small_number}
+use Rattle.rt_form.specs.declared.catalogue.ColumnType.{ColumnType}
+use Rattle.rt_form.specs.declared.catalogue.ColumnType.TheVariants as type_
 
 both_true : (a b : Bool) → (a && b) ≡ true → (a ≡ true) × (b ≡ true)
 both_true true b e = (refl, e)

@@ -18,17 +18,17 @@ use Rattle.rt_entry.specs.declared.input.Input.{Input}
 use Rattle.rt_entry.specs.declared.input.Input.TheVariants.{Opened, Frame, Poll}
 use Rattle.rt_script.specs.Reading.{claims_in, default_settings}
 use Rattle.rt_script.specs.Running.{printed_due}
-use Rattle.rt_first.specs.Messages.{shown_type}
-use Rattle.rt_first.specs.Output.{given}
-use Rattle.rt_first.specs.Printed.{printed}
-use Rattle.rt_first.specs.Script.{AreSaid, IsScript}
-use Rattle.rt_first.specs.Statements.{AreStatements}
-use Rattle.rt_first.specs.declared.catalogue.Catalogue.{Catalogue}
-use Rattle.rt_first.specs.declared.catalogue.Column.{Column}
-use Rattle.rt_first.specs.declared.catalogue.ColumnType.{ColumnType}
-use Rattle.rt_first.specs.declared.catalogue.ColumnType.TheVariants as type_
-use Rattle.rt_first.specs.declared.catalogue.Table.{Table}
-use Rattle.rt_first.specs.declared.script.Script.{Script}
+use Rattle.rt_form.specs.Messages.{shown_type}
+use Rattle.rt_form.specs.Output.{given}
+use Rattle.rt_form.specs.Printed.{printed}
+use Rattle.rt_form.specs.Script.{AreSaid, IsScript}
+use Rattle.rt_form.specs.Statements.{AreStatements}
+use Rattle.rt_form.specs.declared.catalogue.Catalogue.{Catalogue}
+use Rattle.rt_form.specs.declared.catalogue.Column.{Column}
+use Rattle.rt_form.specs.declared.catalogue.ColumnType.{ColumnType}
+use Rattle.rt_form.specs.declared.catalogue.ColumnType.TheVariants as type_
+use Rattle.rt_form.specs.declared.catalogue.Table.{Table}
+use Rattle.rt_form.specs.declared.script.Script.{Script}
 
 abbrev pub kind_of : ColumnType → Kind
 kind_of type_.Int4 = kind.Int4

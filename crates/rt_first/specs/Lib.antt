@@ -1,7 +1,1 @@
 pub mod First
-pub mod Lexing
-pub mod Messages
-pub mod Output
-pub mod Printed
-pub mod Script
-pub mod Statements
