@@ -1,6 +1,7 @@
 ghost use Rattle.std.specs.Prelude.{◌≡◌, ◌++◌, ◌∷◌, [], ◌<◌, flat_map, OnOk, IfOk, IsUtf8};
+ghost use Rattle.std.specs.List.{AllByRecursion};
 ghost use Rattle.rt_json.specs.Written.{written, written_member, listed, quoted, written_byte, hex_digit, comma_before};
-ghost use Rattle.rt_json.specs.Fits.{FitsWithin};
+ghost use Rattle.rt_json.specs.Fits.{FitsWithin, HasUtf8Texts, HasUtf8Member, IsWellNested};
 ghost use Rattle.rt_json.specs.Grammar.{IsJson, max_levels};
 ghost use Rattle.rt_json.specs.declared.tree.Json.{Json};
 
@@ -74,6 +75,7 @@ fn write_comma(out: &mut Vec<u8>, at: usize) -> Result<(), AllocError>
 fn write_value(out: &mut Vec<u8>, tree: &Json) -> Result<(), AllocError>
     ensures spelling { OnOk result (out.new.items ≡ out.old.items ++ written tree.now) }
     ensures utf8 { OnOk result (IsUtf8 out.old.items → IsUtf8 out.new.items) }
+    ensures texts { OnOk result (HasUtf8Texts tree.now) }
 {
     match tree {
         Json::Null => out.extend_from_slice(b"null"),
@@ -90,6 +92,7 @@ fn write_value(out: &mut Vec<u8>, tree: &Json) -> Result<(), AllocError>
 fn write_items(out: &mut Vec<u8>, items: &[Json]) -> Result<(), AllocError>
     ensures spelling { OnOk result (out.new.items ≡ out.old.items ++ 91 ∷ listed written items.now ++ 93 ∷ []) }
     ensures utf8 { OnOk result (IsUtf8 out.old.items → IsUtf8 out.new.items) }
+    ensures texts { OnOk result (AllByRecursion HasUtf8Texts items.now) }
 {
     out.push(b'[')?;
     for (i, item) in items.iter().enumerate() {
@@ -104,6 +107,7 @@ fn write_items(out: &mut Vec<u8>, items: &[Json]) -> Result<(), AllocError>
 fn write_members(out: &mut Vec<u8>, members: &[Member]) -> Result<(), AllocError>
     ensures spelling { OnOk result (out.new.items ≡ out.old.items ++ 123 ∷ listed written_member members.now ++ 125 ∷ []) }
     ensures utf8 { OnOk result (IsUtf8 out.old.items → IsUtf8 out.new.items) }
+    ensures texts { OnOk result (AllByRecursion HasUtf8Member members.now) }
 {
     out.push(b'{')?;
     for (i, member) in members.iter().enumerate() {
@@ -118,6 +122,7 @@ fn write_members(out: &mut Vec<u8>, members: &[Member]) -> Result<(), AllocError
 fn write_member(out: &mut Vec<u8>, member: &Member) -> Result<(), AllocError>
     ensures spelling { OnOk result (out.new.items ≡ out.old.items ++ written_member member.now) }
     ensures utf8 { OnOk result (IsUtf8 out.old.items → IsUtf8 out.new.items) }
+    ensures texts { OnOk result (HasUtf8Member member.now) }
 {
     write_text(out, member.name.get().as_bytes())?;
     out.push(b':')?;
@@ -125,10 +130,12 @@ fn write_member(out: &mut Vec<u8>, member: &Member) -> Result<(), AllocError>
 }
 
 /// The one spelling of a tree behind the bytes that are given: no blanks, the members in order, and no escape that isn't
-/// needed. Fails for want of memory alone, and then the bytes are gone.
+/// needed. It is read again as the same tree, where the tree's lists and objects nest in at most 64 levels and its numbers
+/// are numbers of the grammar. Fails for want of memory alone, and then the bytes are gone.
 pub fn write_behind(bytes: Vec<u8>, tree: &Json) -> Result<Vec<u8>, AllocError>
     ensures spelling { IfOk result (λ all. all.items ≡ bytes.items ++ written tree.now) }
     ensures utf8 { IfOk result (λ all. IsUtf8 bytes.items → IsUtf8 all.items) }
+    ensures again { IfOk result (λ _. IsWellNested tree.now → IsJson (written tree.now) tree.now) }
 {
     let mut out = bytes;
     write_value(&mut out, tree)?;
@@ -139,6 +146,7 @@ pub fn write_behind(bytes: Vec<u8>, tree: &Json) -> Result<Vec<u8>, AllocError>
 pub fn write(alloc: Global, tree: &Json) -> Result<Bytes, AllocError>
     ensures spelling { IfOk result (λ bytes. bytes ≡ written tree.now) }
     ensures utf8 { IfOk result (λ bytes. IsUtf8 bytes) }
+    ensures again { IfOk result (λ bytes. IsWellNested tree.now → IsJson bytes tree.now) }
 {
     let out = write_behind(Vec::with_capacity(alloc, FIRST_ROOM)?, tree)?;
     Ok(Bytes::new(out))

@@ -1,4 +1,5 @@
 pub mod Distinct
+pub mod Ends
 pub mod Names
 pub mod CivilText
 pub mod Offsets

@@ -7,11 +7,11 @@ use Rattle.rt_wal.specs.declared.records.Action.{Action}
 use Rattle.rt_wal.specs.declared.records.Action.TheVariants.{Commit}
 use Rattle.rt_wal.specs.declared.batching.Batching.{Batching}
 use Rattle.rt_wal.specs.declared.batching.Batching.TheVariants.{Batch, More}
-use Rattle.rt_wal.specs.Records.{content_of, IsRecord}
+use Rattle.rt_wal.specs.Records.{without_last, IsRecord}
 
--- a line that is empty, or a CR alone
+-- a line that is empty, or a CR alone, with or without an LF behind it
 abbrev pub is_blank : List ℕ → Bool
-is_blank line = length (content_of line) == 0
+is_blank line = length (without_last 13 (without_last 10 line)) == 0
 
 abbrev pub is_commit : Action → Bool
 is_commit Commit = true

@@ -1,5 +1,5 @@
 -- The record that a line is, or the first reason why it is none.
-use Rattle.std.specs.Prelude.{◌≡◌, ℕ, ◌-◌, ◌==◌, false, if◌then◌else◌, List, length, take, slice_get, Option, Some, None, IsSome}
+use Rattle.std.specs.Prelude.{◌≡◌, ℕ, ◌-◌, ◌==◌, Bool, false, if◌then◌else◌, List, length, take, slice_get, Option, Some, None, IsSome}
 use Rattle.std.specs.Option.{option_map_or}
 use Rattle.rt_json.specs.declared.tree.Json.{Json}
 use Rattle.rt_json.specs.Grammar.{IsJson}
@@ -11,16 +11,18 @@ use Rattle.rt_wal.specs.declared.faults.WalFault.TheVariants.{BadRecord, NoMemor
 use Rattle.rt_wal.specs.Shapes.{shape_of}
 use Rattle.rt_wal.specs.Times.{IsTimeIn}
 
+abbrev pub ends_in : ℕ → List ℕ → Bool
+ends_in byte bytes = option_map_or (λ last. last == byte) (slice_get bytes (length bytes - 1)) false
+
 -- the bytes without the byte at their end, if it stands there
 abbrev pub without_last : ℕ → List ℕ → List ℕ
-without_last byte bytes =
-    if option_map_or (λ last. last == byte) (slice_get bytes (length bytes - 1)) false then take (length bytes - 1) bytes else bytes
+without_last byte bytes = if ends_in byte bytes then take (length bytes - 1) bytes else bytes
 
--- a line without the LF at its end, and without a CR before it
+-- A line without its end, which is an LF, and a CR before that. The last line of a text may have no end: then a CR is a byte of the line.
 abbrev pub content_of : List ℕ → List ℕ
-content_of line = without_last 13 (without_last 10 line)
+content_of line = if ends_in 10 line then without_last 13 (without_last 10 line) else line
 
--- the text is JSON, with the members of a record and a commit time
+-- the text, a line without its end, is JSON, with the members of a record and a commit time
 pub record IsRecordText (text : List ℕ) (entry : Record) : Type 0 where
   pub tree : Json
   pub is_json : IsJson text tree

@@ -6,7 +6,7 @@ ghost use Rattle.rt_wal.specs.Batches as spec;
 ghost use Rattle.rt_wal.specs.Batches.{HasCut, IsCutOfLines, TakesLine, IsNext};
 
 use crate::faults::WalFault;
-use crate::parsing::{content_of, parse_record};
+use crate::parsing::{content_of, parse_text, without_last};
 use crate::records::{Action, Record};
 use rt_value::List;
 use std::alloc::{AllocFailed, Global};
@@ -44,7 +44,7 @@ impl Model for Batcher {
 fn is_blank(line: &[u8]) -> bool
     ensures { result ≡ spec.is_blank line.now }
 {
-    content_of(line).is_empty()
+    without_last(without_last(line, b'\n'), b'\r').is_empty()
 }
 
 fn is_commit(action: Action) -> bool
@@ -81,7 +81,8 @@ impl Batcher {
         }
     }
 
-    /// Takes the stream's next line, with or without its LF. A line that is empty or a CR alone counts for nothing.
+    /// Takes the stream's next line with its LF, which the last line may lack. A line that is empty or a CR alone counts
+    /// for nothing.
     ///
     /// `BadRecord` where the line is no record, with the reason that `parse_record` gives, and `NoMemory` where memory
     /// runs out. The batcher is then as it was before.
@@ -98,7 +99,7 @@ impl Batcher {
         if is_blank(line) {
             return Ok(Batching::More);
         }
-        let entry = parse_record(self.alloc, line)?;
+        let entry = parse_text(self.alloc, content_of(line))?;
         Ok(self.take(entry)?)
     }
 
