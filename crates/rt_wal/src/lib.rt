@@ -7,8 +7,6 @@ mod laws;
 mod parsing;
 mod records;
 mod shapes;
-#[cfg(test)]
-mod tests;
 mod times;
 
 pub use batching::{Batcher, Batching};
