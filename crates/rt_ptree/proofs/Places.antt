@@ -7,6 +7,10 @@ use Rattle.std.proofs.lemmas.List.{append-nil, take-append-drop, drop_more}
 use Rattle.std.proofs.lemmas.List.Concat.{flat_map-append}
 use Rattle.std.specs.BTreeMap.{insert_entry}
 use Rattle.std.specs.Option.{option_or}
+use Rattle.std.specs.Arc.{arc_value}
+use Rattle.rt_ptree.specs.declared.change.Change.{Change}
+use Rattle.rt_ptree.specs.declared.change.Change.TheVariants.{Put, Take}
+use Rattle.rt_ptree.specs.Change.{change_key, changed}
 use Rattle.rt_ptree.specs.Entries.{IsRising, IsBelow, IsAbove, value_at, entry_after, without_key}
 use Rattle.rt_ptree.proofs.Middle.{insert_entry-middle, without_key-middle, value_at-middle, entry_after-middle}
 use Rattle.rt_ptree.proofs.Order.{IsRising-left, IsRising-right, IsAbove-from_first, IsBelow-from_first}
@@ -53,9 +57,12 @@ module _ {K V C : Type 0} (cmp : K → K → Ordering) (f : C → List (K × V))
   pub entry_after-at : entry_after cmp (flat_map f parts) k ≡ option_or (entry_after cmp (f x) k) (slice_get (flat_map f (drop (i + 1) parts)) 0)
   entry_after-at = ap (λ es. entry_after cmp es k) (flat_map-at f parts i x within read) ∙ entry_after-middle cmp k _ (f x) _ below above
 
-  -- the part x is changed, and the others stay
-  pub insert_entry-at : (v : V) → insert_entry cmp (flat_map f parts) k v ≡ flat_map f (take i parts) ++ (insert_entry cmp (f x) k v ++ flat_map f (drop (i + 1) parts))
-  insert_entry-at v = ap (λ es. insert_entry cmp es k v) (flat_map-at f parts i x within read) ∙ insert_entry-middle cmp k v _ (f x) _ below above
-
-  pub without_key-at : without_key cmp (flat_map f parts) k ≡ flat_map f (take i parts) ++ (without_key cmp (f x) k ++ flat_map f (drop (i + 1) parts))
-  without_key-at = ap (λ es. without_key cmp es k) (flat_map-at f parts i x within read) ∙ without_key-middle cmp k _ (f x) _ below above
+-- the part x is changed, and the others stay
+pub changed-at : {K V C : Type 0} (cmp : K → K → Ordering) (f : C → List (K × V)) (parts : List C) (i : ℕ) (x : C) → i < length parts → x ≡ get_or parts i x → (c : Change K V)
+    → IsBelow cmp (flat_map f (take i parts)) (change_key c) → IsAbove cmp (flat_map f (drop (i + 1) parts)) (change_key c)
+    → changed cmp c (flat_map f parts) ≡ flat_map f (take i parts) ++ (changed cmp c (f x) ++ flat_map f (drop (i + 1) parts))
+changed-at cmp f parts i x within read (Put e) below above =
+    ap (λ es. insert_entry cmp es (arc_value e.now.key) (arc_value e.now.value)) (flat_map-at f parts i x within read)
+    ∙ insert_entry-middle cmp (arc_value e.now.key) (arc_value e.now.value) _ (f x) _ below above
+changed-at cmp f parts i x within read (Take k) below above =
+    ap (λ es. without_key cmp es k.now) (flat_map-at f parts i x within read) ∙ without_key-middle cmp k.now _ (f x) _ below above

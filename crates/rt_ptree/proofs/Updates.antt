@@ -1,5 +1,5 @@
 -- What is found at each key after an insertion and a removal.
-use Rattle.std.proofs.Common.{◌≡◌, Bool, Option, Some, None, IfOk, Result, Ok, Err, List, [], ◌∷◌, true, false, refl, ap, sym, subst, ◌∙◌, if◌then◌else◌}
+use Rattle.std.proofs.Common.{◌≡◌, Bool, Some, None, List, [], ◌∷◌, true, false, refl, ap, sym, ◌∙◌, if◌then◌else◌}
 use Rattle.std.specs.declared.cmp.Ordering.{Ordering}
 use Rattle.std.specs.declared.cmp.Ordering.TheVariants.{Less, Equal, Greater}
 use Rattle.std.specs.BTreeMap.{insert_entry, is_at}
@@ -55,8 +55,3 @@ module _ {K V : Type 0} {cmp : K → K → Ordering} (o : IsTotalOrder cmp) (k :
   pub Updates-insert : (v : V) (es : List (K × V)) → Updates cmp es (insert_entry cmp es k v) k (Some v)
   Updates-insert v [] q = rw (is_at-flip o k q)
   Updates-insert v (e ∷ es) q = put_found v e es q (Updates-insert v es q) (cmp k e.0) refl
-
--- what holds of the entries that an answer is equal to
-pub Updates-from_equal : {K V E : Type 0} (cmp : K → K → Ordering) (old es fs : List (K × V)) (k : K) (w : Option V) (r : Result (List (K × V)) E) → IfOk r (λ t. t ≡ es) → es ≡ fs → Updates cmp old fs k w → IfOk r (λ t. Updates cmp old t k w)
-Updates-from_equal {K} {V} cmp old es fs k w (Ok t) same is updates = subst (λ (l : List (K × V)). Updates cmp old l k w) (sym (same ∙ is)) updates
-Updates-from_equal cmp old es fs k w (Err e) same is updates = tt

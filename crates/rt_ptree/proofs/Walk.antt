@@ -7,8 +7,8 @@ use Rattle.std.specs.declared.cmp.Ordering.TheVariants.{Less, Equal, Greater}
 use Rattle.std.specs.Ordering.{is_le}
 use Rattle.rt_ptree.specs.declared.entry.Entry.{Entry}
 use Rattle.rt_ptree.specs.Entries.{IsBelow, IsAbove}
-use Rattle.rt_ptree.specs.Parts.{Branch, entry_list, node_list, branch_list}
-use Rattle.rt_ptree.specs.Walk.{Leaf, entries_from, level_list, left_list}
+use Rattle.rt_ptree.specs.Parts.{Leaf, Branch, entry_list, node_list, branch_list}
+use Rattle.rt_ptree.specs.Walk.{entries_from, level_list, left_list}
 use Rattle.rt_ptree.proofs.Places.{drop-at, flat_map-at}
 
 module _ {K V : Type 0} (cmp : K → K → Ordering) (k : K) where

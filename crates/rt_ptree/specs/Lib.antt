@@ -1,4 +1,5 @@
 pub mod Entries
+pub mod Change
 pub mod Pieces
 pub mod Parts
 pub mod Orderly

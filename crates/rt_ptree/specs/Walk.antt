@@ -7,7 +7,7 @@ use Rattle.std.specs.Ordering.{is_le}
 use denote.Ref.{Bor}
 use Rattle.rt_ptree.specs.declared.entry.Entry.{Entry}
 use Rattle.rt_ptree.specs.declared.node.Node.{Node}
-use Rattle.rt_ptree.specs.Parts.{Branch, entry_list, branch_list, node_list, IsFitNode, IsFitBranch}
+use Rattle.rt_ptree.specs.Parts.{Leaf, Branch, entry_list, branch_list, node_list, IsFitLeaf, IsFitBranch}
 
 -- the entries whose keys are not below k
 abbrev pub entries_from : {K V : Type 0} → (K → K → Ordering) → List (K × V) → K → List (K × V)
@@ -21,15 +21,11 @@ entry_seen e = (e.0.now, e.1.now)
 abbrev pub level_list : {C E : Type 0} → (C → List E) → List C → List (Arc (Node C) Global) → List E
 level_list entries parts nodes = flat_map entries parts ++ flat_map (node_list entries) nodes
 
--- a node of entries
-abbrev pub Leaf : Type 0 → Type 0 → Type 0
-Leaf K V = Arc (Node (Entry K V)) Global
-
 -- the entries that are left: of a leaf, of the leaves behind it in its branch, and of the branches behind that
 abbrev pub left_list : {K V : Type 0} → List (Entry K V) → List (Leaf K V) → List (Branch K V) → List (K × V)
 left_list entries leaves branches = level_list entry_list entries leaves ++ flat_map branch_list branches
 
 -- no list that is still to come is empty
 pub record IsFitWalk {K V : Type 0} (leaves : List (Leaf K V)) (branches : List (Branch K V)) : Type 0 where
-  pub leaf_fits : All (IsFitNode (λ _. Unit {0})) leaves
+  pub leaf_fits : All IsFitLeaf leaves
   pub branch_fits : All IsFitBranch branches

@@ -1,10 +1,15 @@
-ghost use Rattle.std.specs.Prelude.{◌≡◌, IfOk};
+ghost use Rattle.std.specs.Prelude.{◌≡◌, IfOk, OnErr, flat_map};
 ghost use Rattle.std.specs.Arc.{arc_value};
+ghost use Rattle.std.specs.BTreeMap.{insert_entry};
+ghost use Rattle.std.proofs.Math.Facts.{leb_yes};
 ghost use Rattle.rt_ptree.specs.Parts.{entry_list};
+ghost use Rattle.rt_ptree.specs.Pieces.{pieces_list};
 
+use crate::change::Change;
 use crate::part::{Part, Pieces};
 use std::alloc::{AllocError, Global};
 use std::cmp::Ordering;
+use std::mem;
 use std::sync::Arc;
 
 /// A key and its value.
@@ -15,15 +20,33 @@ pub struct Entry<K, V> {
 }
 
 impl<K: Drop, V: Drop> Entry<K, V> {
-    // The entry of a key and a value that have other owners too.
-    pub fn of(key: &Arc<K>, value: &Arc<V>) -> Result<Self, AllocError>
-        ensures key { IfOk result (λ e. arc_value e.key ≡ arc_value key.now) }
-        ensures value { IfOk result (λ e. arc_value e.value ≡ arc_value value.now) }
+    // The entry with one owner more of its key and its value.
+    pub fn shared(&self) -> Result<Self, AllocError>
+        ensures key { IfOk result (λ e. arc_value e.key ≡ arc_value self.now.key) }
+        ensures value { IfOk result (λ e. arc_value e.value ≡ arc_value self.now.value) }
     {
         Ok(Entry {
-            key: Arc::try_clone(key)?,
-            value: Arc::try_clone(value)?,
+            key: Arc::try_clone(&self.key)?,
+            value: Arc::try_clone(&self.value)?,
         })
+    }
+}
+
+impl<K: Ord + Drop, V: Drop> Entry<K, V> {
+    // Puts the other entry before this one or behind it, or its value in here.
+    fn put(&mut self, other: &Entry<K, V>) -> Result<Pieces<Self>, AllocError>
+        ensures entries { IfOk result (λ p. flat_map entry_list (pieces_list self.new p)
+            ≡ insert_entry K.cmp (entry_list self.old) (arc_value other.now.key) (arc_value other.now.value)) }
+        ensures err { OnErr result (self.new ≡ self.old) }
+    {
+        match (*other.key).cmp(&self.key) {
+            Ordering::Less => Ok(Pieces::Two(mem::replace(self, other.shared()?))),
+            Ordering::Equal => {
+                self.value = Arc::try_clone(&other.value)?;
+                Ok(Pieces::One)
+            }
+            Ordering::Greater => Ok(Pieces::Two(other.shared()?)),
+        }
     }
 }
 
@@ -32,8 +55,14 @@ impl<K: Ord + Drop, V: Drop> Part<K, V> for Entry<K, V> {
 
     ghost is_fit = { λ _. Unit {0} };
 
+    const MOST: usize = 32;
+
+    ghost MOST = { 32 };
+
+    ghost halves = { leb_yes tt };
+
     fn share(&self) -> Result<Self, AllocError> {
-        Entry::of(&self.key, &self.value)
+        self.shared()
     }
 
     fn first(&self) -> (&K, &V) {
@@ -54,23 +83,17 @@ impl<K: Ord + Drop, V: Drop> Part<K, V> for Entry<K, V> {
         }
     }
 
-    fn with_entry(
-        &self,
+    fn change(
+        &mut self,
         _alloc: Global,
-        key: &Arc<K>,
-        value: &Arc<V>,
+        change: &Change<'_, K, V>,
     ) -> Result<Pieces<Self>, AllocError> {
-        match (**key).cmp(&self.key) {
-            Ordering::Less => Ok(Pieces::Two(Entry::of(key, value)?, self.share()?)),
-            Ordering::Equal => Ok(Pieces::One(Entry::of(&self.key, value)?)),
-            Ordering::Greater => Ok(Pieces::Two(self.share()?, Entry::of(key, value)?)),
-        }
-    }
-
-    fn without(&self, _alloc: Global, key: &K) -> Result<Pieces<Self>, AllocError> {
-        match key.cmp(&self.key) {
-            Ordering::Equal => Ok(Pieces::None),
-            _ => Ok(Pieces::One(self.share()?)),
+        match *change {
+            Change::Put(entry) => self.put(entry),
+            Change::Take(key) => match key.cmp(&self.key) {
+                Ordering::Equal => Ok(Pieces::None),
+                _ => Ok(Pieces::One),
+            },
         }
     }
 }

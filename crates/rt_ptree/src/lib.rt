@@ -5,6 +5,7 @@
 //! shares the lists, and a change makes one leaf, its branch and the list of branches anew.
 #![tactic(auto)]
 
+mod change;
 mod entry;
 mod node;
 mod part;

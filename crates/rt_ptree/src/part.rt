@@ -1,30 +1,34 @@
-ghost use Rattle.std.specs.Prelude.{◌≡◌, List, All, IfOk, Some, slice_get, option_copied, flat_map};
-ghost use Rattle.std.specs.Arc.{arc_value};
-ghost use Rattle.std.specs.BTreeMap.{insert_entry};
-ghost use Rattle.rt_ptree.specs.Entries.{IsRising, value_at, entry_after, without_key, entry_lent};
+ghost use Rattle.std.specs.Prelude.{◌≡◌, ◌≤◌, ℕ, List, All, IfOk, OnErr, Some, slice_get, option_copied, flat_map};
+ghost use Rattle.rt_ptree.specs.Entries.{IsRising, value_at, entry_after, entry_lent};
+ghost use Rattle.rt_ptree.specs.Change.{changed};
 ghost use Rattle.rt_ptree.specs.Pieces.{pieces_list};
 
+use crate::change::Change;
 use std::alloc::{AllocError, Global};
-use std::sync::Arc;
 
-/// What is put in the place of a part: nothing where it became empty, and two where it was cut.
+/// What stands in the place of a part after a change: nothing where it became empty, the part itself, or
+/// the part and a second one behind it.
 #[derive(Drop)]
 pub enum Pieces<P> {
     None,
-    One(P),
-    Two(P, P),
+    One,
+    Two(P),
 }
 
 /// What a list of the tree holds: an entry, or a shared list of parts.
-///
-/// A change answers the pieces that stand for the changed part. The part itself stays as it is, since
-/// snapshots may share it.
 pub trait Part<K: Ord, V>: Drop {
     // The entries of a part, in the order of their keys.
     ghost entries: { Self → List (K × V) };
 
     // No list of the part is empty or above its bound.
     ghost is_fit: { Self → Type 0 };
+
+    // How many such parts a node holds at most.
+    const MOST: usize;
+
+    ghost MOST: { ℕ };
+
+    ghost halves: { 2 ≤ MOST };
 
     // The part with one owner more.
     fn share(&self) -> Result<Self, AllocError>
@@ -47,22 +51,17 @@ pub trait Part<K: Ord, V>: Drop {
         requires rising { IsRising K.cmp (entries self.now) }
         ensures { entry_lent result ≡ entry_after K.cmp (entries self.now) key.now };
 
-    fn with_entry(
-        &self,
+    // Makes the change, in place where no list has another owner. Answers what stands for the part then.
+    fn change(
+        &mut self,
         alloc: Global,
-        key: &Arc<K>,
-        value: &Arc<V>,
+        change: &Change<'_, K, V>,
     ) -> Result<Pieces<Self>, AllocError>
-        requires fit { is_fit self.now }
-        requires rising { IsRising K.cmp (entries self.now) }
-        ensures entries { IfOk result (λ p. flat_map entries (pieces_list p)
-            ≡ insert_entry K.cmp (entries self.now) (arc_value key.now) (arc_value value.now)) }
-        ensures fits { IfOk result (λ p. All is_fit (pieces_list p)) };
-
-    fn without(&self, alloc: Global, key: &K) -> Result<Pieces<Self>, AllocError>
-        requires fit { is_fit self.now }
-        requires rising { IsRising K.cmp (entries self.now) }
-        ensures entries { IfOk result (λ p. flat_map entries (pieces_list p)
-            ≡ without_key K.cmp (entries self.now) key.now) }
-        ensures fits { IfOk result (λ p. All is_fit (pieces_list p)) };
+        requires fit { is_fit self.old }
+        requires rising { IsRising K.cmp (entries self.old) }
+        ensures entries { IfOk result (λ p. flat_map entries (pieces_list self.new p)
+            ≡ changed K.cmp change.now (entries self.old)) }
+        ensures fits { IfOk result (λ p. All is_fit (pieces_list self.new p)) }
+        ensures err { OnErr result (entries self.new ≡ entries self.old) }
+        ensures err_fit { OnErr result (is_fit self.new) };
 }

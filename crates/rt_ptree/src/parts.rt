@@ -1,13 +1,12 @@
-ghost use Rattle.std.specs.Prelude.{◌≡◌, ◌+◌, ◌<◌, ◌≤◌, ◌++◌, IfOk, OnOk, All, Some, length, take, drop, vec_len, slice_get, option_copied, flat_map};
-ghost use Rattle.std.specs.Arc.{arc_value};
-ghost use Rattle.std.specs.BTreeMap.{insert_entry};
-ghost use Rattle.rt_ptree.specs.Entries.{IsRising, IsBelow, IsAbove, value_at, entry_after, without_key, entry_lent};
+ghost use Rattle.std.specs.Prelude.{◌≡◌, ◌+◌, ◌<◌, ◌≤◌, ◌++◌, IfOk, IsOk, OnOk, OnErr, All, Some, length, take, drop, get_or, vec_len, vec_capacity, slice_get, option_copied, flat_map};
+ghost use Rattle.rt_ptree.specs.Change.{changed};
+ghost use Rattle.rt_ptree.specs.Entries.{IsRising, IsBelow, IsAbove, value_at, entry_after, entry_lent};
 ghost use Rattle.rt_ptree.specs.Orderly.{IsOrderly};
 ghost use Rattle.rt_ptree.specs.Pieces.{pieces_list};
 
+use crate::change::Change;
 use crate::part::{Part, Pieces};
 use std::alloc::{AllocError, Global};
-use std::sync::Arc;
 
 // Where the key belongs: at the last part that does not begin above it, or else at the first part.
 pub fn place<K: Ord, V, C: Part<K, V>>(parts: &[C], key: &K) -> usize
@@ -71,73 +70,54 @@ fn extend_shared<K: Ord, V, C: Part<K, V>>(list: &mut Vec<C>, parts: &[C]) -> Re
     Ok(())
 }
 
-fn extend_pieces<C: Drop>(list: &mut Vec<C>, pieces: Pieces<C>) -> Result<(), AllocError>
-    ensures { OnOk result (list.new.items ≡ list.old.items ++ pieces_list pieces) }
+// The parts, each with one owner more, and room for one.
+pub fn copied<K: Ord, V, C: Part<K, V>>(alloc: Global, parts: &[C]) -> Result<Vec<C>, AllocError>
+    requires { All C.is_fit parts.now }
+    ensures entries { IfOk result (λ v. flat_map C.entries v.items ≡ flat_map C.entries parts.now) }
+    ensures fits { IfOk result (λ v. All C.is_fit v.items) }
+    ensures len { IfOk result (λ v. vec_len v ≡ length parts.now) }
+{
+    let mut list = Vec::with_capacity(alloc, parts.len().saturating_add(1))?;
+    extend_shared(&mut list, parts)?;
+    Ok(list)
+}
+
+// Has the pieces stand for the part at `at`.
+fn settle<C: Drop>(parts: &mut Vec<C>, at: usize, pieces: Pieces<C>) -> Result<(), AllocError>
+    requires within { at < vec_len parts.old }
+    requires room { vec_len parts.old < vec_capacity parts.old }
+    ensures ok { IsOk result }
+    ensures items { (part : C) → part ≡ get_or parts.old.items at part →
+        parts.new.items ≡ take at parts.old.items ++ (pieces_list part pieces ++ drop (at + 1) parts.old.items) }
 {
     match pieces {
-        Pieces::None => {}
-        Pieces::One(piece) => list.push(piece)?,
-        Pieces::Two(lower, upper) => {
-            list.push(lower)?;
-            list.push(upper)?;
+        Pieces::None => {
+            parts.remove(at);
         }
+        Pieces::One => {}
+        Pieces::Two(upper) => parts.insert(at + 1, upper)?,
     }
     Ok(())
 }
 
-// The parts with the pieces in the place of the part at `at`. The others are shared.
-fn replaced<K: Ord, V, C: Part<K, V>>(
+/// Makes the change in the list, in place but for what is shared.
+pub fn change_in<K: Ord, V, C: Part<K, V>>(
     alloc: Global,
-    parts: &[C],
-    at: usize,
-    pieces: Pieces<C>,
-) -> Result<Vec<C>, AllocError>
-    requires within { at < length parts.now }
-    requires parts { All C.is_fit parts.now }
-    requires pieces { All C.is_fit (pieces_list pieces) }
-    ensures entries { IfOk result (λ v. flat_map C.entries v.items
-        ≡ flat_map C.entries (take at parts.now)
-        ++ (flat_map C.entries (pieces_list pieces)
-        ++ flat_map C.entries (drop (at + 1) parts.now))) }
-    ensures fits { IfOk result (λ v. All C.is_fit v.items) }
-    ensures len { IfOk result (λ v. vec_len v ≤ length parts.now + 1) }
+    parts: &mut Vec<C>,
+    change: &Change<'_, K, V>,
+) -> Result<(), AllocError>
+    requires { IsOrderly K.cmp C.entries C.is_fit parts.old.items }
+    ensures entries { OnOk result (flat_map C.entries parts.new.items
+        ≡ changed K.cmp change.now (flat_map C.entries parts.old.items)) }
+    ensures fits { All C.is_fit parts.new.items }
+    ensures len { vec_len parts.new ≤ vec_len parts.old + 1 }
+    ensures err { OnErr result (flat_map C.entries parts.new.items
+        ≡ flat_map C.entries parts.old.items) }
+    ensures err_len { OnErr result (vec_len parts.new ≡ vec_len parts.old) }
 {
-    let mut list = Vec::with_capacity(alloc, parts.len().saturating_add(1))?;
-    extend_shared(&mut list, &parts[..at])?;
-    extend_pieces(&mut list, pieces)?;
-    extend_shared(&mut list, &parts[at + 1..])?;
-    Ok(list)
-}
-
-pub fn with_entry_in<K: Ord, V, C: Part<K, V>>(
-    alloc: Global,
-    parts: &[C],
-    key: &Arc<K>,
-    value: &Arc<V>,
-) -> Result<Vec<C>, AllocError>
-    requires { IsOrderly K.cmp C.entries C.is_fit parts.now }
-    ensures entries { IfOk result (λ v. flat_map C.entries v.items
-        ≡ insert_entry K.cmp (flat_map C.entries parts.now) (arc_value key.now) (arc_value value.now)) }
-    ensures fits { IfOk result (λ v. All C.is_fit v.items) }
-    ensures len { IfOk result (λ v. vec_len v ≤ length parts.now + 1) }
-{
-    let at = place(parts, key);
-    let pieces = parts[at].with_entry(alloc, key, value)?;
-    replaced(alloc, parts, at, pieces)
-}
-
-pub fn without_in<K: Ord, V, C: Part<K, V>>(
-    alloc: Global,
-    parts: &[C],
-    key: &K,
-) -> Result<Vec<C>, AllocError>
-    requires { IsOrderly K.cmp C.entries C.is_fit parts.now }
-    ensures entries { IfOk result (λ v. flat_map C.entries v.items
-        ≡ without_key K.cmp (flat_map C.entries parts.now) key.now) }
-    ensures fits { IfOk result (λ v. All C.is_fit v.items) }
-    ensures len { IfOk result (λ v. vec_len v ≤ length parts.now + 1) }
-{
-    let at = place(parts, key);
-    let pieces = parts[at].without(alloc, key)?;
-    replaced(alloc, parts, at, pieces)
+    // All memory comes before the first write.
+    parts.reserve(1)?;
+    let at = place(parts, change.key());
+    let pieces = parts[at].change(alloc, change)?;
+    settle(parts, at, pieces)
 }

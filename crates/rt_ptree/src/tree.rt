@@ -1,14 +1,17 @@
-ghost use Rattle.std.specs.Prelude.{◌≡◌, ◌+◌, ◌<◌, ◌≤◌, [], ◌∷◌, All, IfOk, IfErr, OnOk, OnErr, Ok, Some, None, false, true, IsTrue, ◌↔◌, is_some, length, slice_get, option_copied, flat_map, if◌then◌else◌};
+ghost use Rattle.std.specs.Prelude.{◌≡◌, ◌+◌, ◌<◌, ◌≤◌, [], ◌∷◌, All, IfOk, IfErr, OnOk, OnErr, Ok, Some, None, false, true, IsTrue, ◌↔◌, is_some, length, vec_len, slice_get, option_copied, flat_map, if◌then◌else◌};
 ghost use Rattle.std.specs.Arc.{arc_value};
 ghost use Rattle.std.specs.BTreeMap.{insert_entry};
+ghost use Rattle.rt_ptree.specs.Change.{changed};
 ghost use Rattle.rt_ptree.specs.Entries.{IsRising, Updates, value_at, entry_after, without_key, entry_lent};
-ghost use Rattle.rt_ptree.specs.Parts.{branch_list, IsFitBranch};
+ghost use Rattle.rt_ptree.specs.Orderly.{IsOrderly};
+ghost use Rattle.rt_ptree.specs.Parts.{branch_list, tree_list, IsFitBranch, IsFitTree};
 
 mod walk;
 
+use crate::change::Change;
 use crate::entry::Entry;
 use crate::node::Node;
-use crate::parts::{after_in, first_in, get_in, with_entry_in, without_in};
+use crate::parts::{after_in, change_in, copied, first_in, get_in};
 use std::alloc::{AllocError, Global};
 use std::marker::Model;
 use std::sync::Arc;
@@ -128,12 +131,10 @@ impl<K: Ord + Drop, V: Drop> Tree<K, V> {
         ensures returned { IfErr result (λ pair. pair ≡ (key, value)) }
         ensures err { OnErr result (self.new ≡ self.old) }
     {
-        match self.with_entry(&key, &value) {
-            Ok(tree) => {
-                *self = tree;
-                Ok(())
-            }
-            Err(_) => Err((key, value)),
+        let entry = Entry { key, value };
+        match self.put(&entry) {
+            Ok(()) => Ok(()),
+            Err(_) => Err((entry.key, entry.value)),
         }
     }
 
@@ -150,20 +151,32 @@ impl<K: Ord + Drop, V: Drop> Tree<K, V> {
         if self.get(key).is_none() {
             return Ok(false);
         }
-        *self = self.without(key)?;
+        self.take(key)?;
         Ok(true)
     }
 
-    // The map with the entry put in.
-    fn with_entry(&self, key: &Arc<K>, value: &Arc<V>) -> Result<Self, AllocError>
-        ensures ok { IfOk result (λ t. t
-            ≡ insert_entry K.cmp self.now (arc_value key.now) (arc_value value.now)) }
-        ensures updates { IfOk result (λ t.
-            Updates K.cmp self.now t (arc_value key.now) (Some (arc_value value.now))) }
+    fn put(&mut self, entry: &Entry<K, V>) -> Result<(), AllocError>
+        ensures ok { OnOk result (self.new
+            ≡ insert_entry K.cmp self.old (arc_value entry.now.key) (arc_value entry.now.value)) }
+        ensures err { OnErr result (self.new ≡ self.old) }
     {
-        let len = self.len_with(key)?;
-        let branches = self.branches_with(key, value)?;
-        Tree::from_branches(self.alloc, branches, len)
+        let count = self.len_with(&entry.key)?;
+        change_all(self.alloc, &mut self.branches, &Change::Put(entry))?;
+        self.count = count;
+        Ok(())
+    }
+
+    // Takes the entry at the key out, which is there.
+    fn take(&mut self, key: &K) -> Result<(), AllocError>
+        requires { is_some (value_at K.cmp self.old key.now) ≡ true }
+        ensures ok { OnOk result (self.new ≡ without_key K.cmp self.old key.now) }
+        ensures updates { OnOk result (Updates K.cmp self.old self.new key.now None) }
+        ensures err { OnErr result (self.new ≡ self.old) }
+    {
+        let count = self.len() - 1;
+        change_all(self.alloc, &mut self.branches, &Change::Take(key))?;
+        self.count = count;
+        Ok(())
     }
 
     // How many entries there are with one at the key. A map of `usize::MAX` entries, which no
@@ -177,72 +190,74 @@ impl<K: Ord + Drop, V: Drop> Tree<K, V> {
             None => self.len().checked_add(1).ok_or(AllocError),
         }
     }
+}
 
-    fn branches_with(&self, key: &Arc<K>, value: &Arc<V>) -> Result<Vec<Branch<K, V>>, AllocError>
-        ensures entries { IfOk result (λ v. flat_map branch_list v.items
-            ≡ insert_entry K.cmp self.now (arc_value key.now) (arc_value value.now)) }
-        ensures fits { IfOk result (λ v. All IsFitBranch v.items) }
-    {
-        match &self.branches {
-            Some(branches) => with_entry_in(self.alloc, branches, key, value),
-            None => single(self.alloc, key, value),
+// Makes the change in the list of branches, in place where it has no other owner. Answers whether
+// none is left.
+fn change_branches<K: Ord + Drop, V: Drop>(
+    alloc: Global,
+    branches: &mut Arc<Vec<Branch<K, V>>>,
+    change: &Change<'_, K, V>,
+) -> Result<bool, AllocError>
+    requires { IsOrderly K.cmp branch_list IsFitBranch (arc_value branches.old).items }
+    ensures entries { OnOk result (flat_map branch_list (arc_value branches.new).items
+        ≡ changed K.cmp change.now (flat_map branch_list (arc_value branches.old).items)) }
+    ensures emptied { IfOk result (λ none. IsTrue none ↔ ((arc_value branches.new).items ≡ [])) }
+    ensures fits { All IsFitBranch (arc_value branches.new).items }
+    ensures err { OnErr result (flat_map branch_list (arc_value branches.new).items
+        ≡ flat_map branch_list (arc_value branches.old).items) }
+    ensures err_some { OnErr result (0 < length (arc_value branches.new).items) }
+{
+    if let Some(list) = Arc::get_mut(branches) {
+        change_in(alloc, list, change)?;
+        return Ok(list.is_empty());
+    }
+    let mut list = copied(alloc, branches)?;
+    change_in(alloc, &mut list, change)?;
+    let none = list.is_empty();
+    *branches = Arc::new(alloc, list)?;
+    Ok(none)
+}
+
+// Makes the change in a map that may have no branches, before or behind it.
+fn change_all<K: Ord + Drop, V: Drop>(
+    alloc: Global,
+    branches: &mut Option<Arc<Vec<Branch<K, V>>>>,
+    change: &Change<'_, K, V>,
+) -> Result<(), AllocError>
+    requires fits { IsFitTree branches.old }
+    requires rising { IsRising K.cmp (tree_list branches.old) }
+    ensures entries { OnOk result (tree_list branches.new
+        ≡ changed K.cmp change.now (tree_list branches.old)) }
+    ensures fits { IsFitTree branches.new }
+    ensures err { OnErr result (tree_list branches.new ≡ tree_list branches.old) }
+{
+    match branches {
+        Some(list) => {
+            if change_branches(alloc, list, change)? {
+                *branches = None;
+            }
+        }
+        None => {
+            if let Change::Put(entry) = *change {
+                *branches = Some(Arc::new(alloc, single(alloc, entry)?)?);
+            }
         }
     }
-
-    // The map without the entry at the key, which is there.
-    fn without(&self, key: &K) -> Result<Self, AllocError>
-        requires { is_some (value_at K.cmp self.now key.now) ≡ true }
-        ensures ok { IfOk result (λ t. t ≡ without_key K.cmp self.now key.now) }
-        ensures updates { IfOk result (λ t. Updates K.cmp self.now t key.now None) }
-    {
-        let branches = self.branches_without(key)?;
-        Tree::from_branches(self.alloc, branches, self.len() - 1)
-    }
-
-    fn branches_without(&self, key: &K) -> Result<Vec<Branch<K, V>>, AllocError>
-        ensures entries { IfOk result (λ v. flat_map branch_list v.items ≡ without_key K.cmp self.now key.now) }
-        ensures fits { IfOk result (λ v. All IsFitBranch v.items) }
-    {
-        match &self.branches {
-            Some(branches) => without_in(self.alloc, branches, key),
-            None => Ok(Vec::new(self.alloc)),
-        }
-    }
-
-    fn from_branches(
-        alloc: Global,
-        branches: Vec<Branch<K, V>>,
-        count: usize,
-    ) -> Result<Self, AllocError>
-        requires fits { All IsFitBranch branches.items }
-        requires rising { IsRising K.cmp (flat_map branch_list branches.items) }
-        requires counted { count ≡ length (flat_map branch_list branches.items) }
-        ensures { IfOk result (λ t. t ≡ flat_map branch_list branches.items) }
-    {
-        let branches = if branches.is_empty() {
-            None
-        } else {
-            Some(Arc::new(alloc, branches)?)
-        };
-        Ok(Tree {
-            branches,
-            count,
-            alloc,
-        })
-    }
+    Ok(())
 }
 
 // The branches of a map with one entry.
 fn single<K: Drop, V: Drop>(
     alloc: Global,
-    key: &Arc<K>,
-    value: &Arc<V>,
+    entry: &Entry<K, V>,
 ) -> Result<Vec<Branch<K, V>>, AllocError>
     ensures entries { IfOk result (λ v. flat_map branch_list v.items
-        ≡ (arc_value key.now, arc_value value.now) ∷ []) }
+        ≡ (arc_value entry.now.key, arc_value entry.now.value) ∷ []) }
     ensures fits { IfOk result (λ v. All IsFitBranch v.items) }
+    ensures some { IfOk result (λ v. 0 < vec_len v) }
 {
-    let leaf = Node::shared(alloc, vec![in alloc; Entry::of(key, value)?]?)?;
+    let leaf = Node::shared(alloc, vec![in alloc; entry.shared()?]?)?;
     let branch = Node::shared(alloc, vec![in alloc; leaf]?)?;
     Ok(vec![in alloc; branch]?)
 }

@@ -40,11 +40,11 @@ fn opened<'a, K: Ord, V, C: Part<K, V>>(
     nodes: &'a [Arc<Node<C>>],
     key: &K,
 ) -> (&'a [C], &'a [Arc<Node<C>>])
-    requires { IsOrderly K.cmp (node_list C.entries) (IsFitNode C.is_fit) nodes.now }
+    requires { IsOrderly K.cmp (node_list C.entries) (IsFitNode C.MOST C.is_fit) nodes.now }
     ensures from { entries_from K.cmp (flat_map (node_list C.entries) nodes.now) key.now
         ≡ entries_from K.cmp (flat_map C.entries result.0.now) key.now ++ flat_map (node_list C.entries) result.1.now }
     ensures parts { IsOrderly K.cmp C.entries C.is_fit result.0.now }
-    ensures nodes { All (IsFitNode C.is_fit) result.1.now }
+    ensures nodes { All (IsFitNode C.MOST C.is_fit) result.1.now }
 {
     let at = place(nodes, key);
     (&nodes[at].parts, &nodes[at + 1..])
@@ -101,10 +101,10 @@ fn refilled<'a, K: Ord, V, C: Part<K, V>>(
     nodes: &'a [Arc<Node<C>>],
 ) -> (&'a [C], &'a [Arc<Node<C>>])
     requires parts { All C.is_fit parts.now }
-    requires nodes { All (IsFitNode C.is_fit) nodes.now }
+    requires nodes { All (IsFitNode C.MOST C.is_fit) nodes.now }
     ensures same { level_list C.entries result.0.now result.1.now ≡ level_list C.entries parts.now nodes.now }
     ensures parts { All C.is_fit result.0.now }
-    ensures nodes { All (IsFitNode C.is_fit) result.1.now }
+    ensures nodes { All (IsFitNode C.MOST C.is_fit) result.1.now }
     ensures none { result.0.now ≡ [] → (nodes.now ≡ []) × (result.1.now ≡ []) }
 {
     if !parts.is_empty() {

@@ -1,5 +1,0 @@
-use Rattle.rt_ptree.proofs.Places.{flat_map-halves}
-use Rattle.rt_ptree.proofs.node.cut.Goals as goal
-
-pub returns-clause-entries : goal.returns-clause-entries
-returns-clause-entries g c = rw (c.in_ok-lower.ensures, c.in_ok-shared-2.ensures, c.in_ok-upper.ensures.items, c.in_ok-upper.ensures.tail) (flat_map-halves g.C.Part.entries _ c.args.parts.items)
