@@ -9,8 +9,6 @@ pub mod laws;
 mod mac;
 mod parts;
 mod signing;
-#[cfg(test)]
-mod tests;
 
 pub use checking::check;
 pub use claims::claims_of;
