@@ -25,13 +25,16 @@ month_length y (suc (suc (suc (suc (suc (suc (suc (suc (suc zero))))))))) low hi
 month_length y (suc (suc (suc (suc (suc (suc (suc (suc (suc (suc zero)))))))))) low high = refl
 month_length y (suc (suc (suc (suc (suc (suc (suc (suc (suc (suc (suc zero))))))))))) low high = refl
 month_length y (suc (suc (suc (suc (suc (suc (suc (suc (suc (suc (suc (suc zero)))))))))))) low high = refl
-month_length y (suc (suc (suc (suc (suc (suc (suc (suc (suc (suc (suc (suc (suc n))))))))))))) low high = absurd (omega arith)
+month_length y (suc (suc (suc (suc (suc (suc (suc (suc (suc (suc (suc (suc (suc n))))))))))))) low high = absurd
+    (omega arith)
 
 -- the days of the months before one
 before_month : (y n : ℕ) → n < 12 → total (take n (month_lengths y)) ≡ days_of_months (pos y) n
 before_month y n h = table n h ∙ sym (days_of_months_table (pos y) n h)
   where
-    table : (n : ℕ) → n < 12 → total (take n (month_lengths y)) ≡ get_or (0 ∷ 31 ∷ 59 ∷ 90 ∷ 120 ∷ 151 ∷ 181 ∷ 212 ∷ 243 ∷ 273 ∷ 304 ∷ 334 ∷ []) n 0 + cond (nat_lt 1 n) (leap_day (pos y)) 0
+    table : (n : ℕ) → n < 12 → total (take n (month_lengths y)) ≡ get_or
+        (0 ∷ 31 ∷ 59 ∷ 90 ∷ 120 ∷ 151 ∷ 181 ∷ 212 ∷ 243 ∷ 273 ∷ 304 ∷ 334 ∷ []) n 0 + cond (nat_lt 1 n)
+        (leap_day (pos y)) 0
     table zero h = refl
     table (suc zero) h = refl
     table (suc (suc zero)) h = grind arith
@@ -47,13 +50,16 @@ before_month y n h = table n h ∙ sym (days_of_months_table (pos y) n h)
     table (suc (suc (suc (suc (suc (suc (suc (suc (suc (suc (suc (suc n)))))))))))) h = absurd (omega arith)
 
 -- the library's day number of a date
-pub library_day : (y m d : ℕ) → 1 ≤ y → 1 ≤ m → m ≤ 12 → 1 ≤ d → days_from_civil (pos y) m d ≡ pos (day_of y m d) -ℤ pos 719162
+pub library_day : (y m d : ℕ) → 1 ≤ y → 1 ≤ m → m ≤ 12 → 1 ≤ d → days_from_civil (pos y) m d ≡ pos (day_of y m d)
+    -ℤ pos 719162
 unfolding day_of
 library_day y m d year low high first =
-    let begins = day_count-early (pos y) (y + 9999) 1 1 (omega (arith, signed_arith)) (omega arith) (omega arith) (omega arith) in
+    let begins = day_count-early (pos y) (y + 9999) 1 1 (omega (arith, signed_arith)) (omega arith) (omega arith)
+    (omega arith) in
     let here = day_count-day_of_year (pos y) m d first in
     let months = before_month y (m - 1) (omega arith) in
-    let years : 365 * (y + 9999) + (y + 9999) / 4 - (y + 9999) / 100 + (y + 9999) / 400 ≡ day_behind (y - 1) + 3652425 = omega arith in
+    let years : 365 * (y + 9999) + (y + 9999) / 4 - (y + 9999) / 100 + (y + 9999) / 400 ≡ day_behind (y - 1) + 3652425 =
+    omega arith in
     omega (arith, signed_arith, days_from_civil-day_count (pos y) m d)
 
 -- what the test of a date tells
@@ -92,7 +98,8 @@ unfolding is_date
 date_holds y m d f =
     let last : nat_le d (slice_index (month_lengths y) (m - 1)) ≡ true =
     le_holds d _ (subst (λ n. d ≤ n) (sym (month_length y m f.month.0 f.month.1)) f.day.1) in
-    both _ _ (both _ _ (both _ _ (both _ _ (both _ _ (le_holds 1 y f.year.0) (le_holds y 9999 f.year.1)) (le_holds 1 m f.month.0)) (le_holds m 12 f.month.1))
+    both _ _ (both _ _ (both _ _ (both _ _ (both _ _ (le_holds 1 y f.year.0) (le_holds y 9999 f.year.1))
+    (le_holds 1 m f.month.0)) (le_holds m 12 f.month.1))
     (le_holds 1 d f.day.0)) last
 
 pub no_date : (y m d : ℕ) → (Fits y m d → ⊥) → is_date y m d ≡ false
@@ -177,7 +184,13 @@ found (n ∷ lengths) days h = by (nat_lt days n) refl (λ ge. found lengths (da
     by false e rest =
         let ge : n ≤ days = grind (arith, nat_tests) in
         let r = rest ge in
-        record { within = omega (arith, r.within); begun = r.begun; in_month = r.in_month; all = omega (arith, r.all, ge) }
+        record {
+          within = omega (arith, r.within);
+          begun = r.begun;
+          in_month = r.in_month;
+          all = omega
+              (arith, r.all, ge);
+        }
 
 -- the date of a day
 pub record IsDateAt (day : ℕ) : Type 0 where
@@ -200,6 +213,11 @@ date_at day h =
     let in_month : day_of_month_at day ≤ slice_index (month_lengths y) (month_at day - 1) = rw back m.in_month in
     let behind : year_at day - 1 ≡ years = omega arith in
     record {
-      fits = record { year = (omega arith, omega (arith, few)); month = (low, high); day = (m.begun, subst (λ n. day_of_month_at day ≤ n) long in_month) };
+      fits = record {
+        year = (omega arith, omega (arith, few));
+        month = (low, high);
+        day =
+            (m.begun, subst (λ n. day_of_month_at day ≤ n) long in_month);
+      };
       is = rw (behind, back) (omega (arith, m.all, here.0));
     }

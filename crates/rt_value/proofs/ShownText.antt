@@ -8,7 +8,7 @@ use Rattle.jiff_core.proofs.DateLemmas.{epoch_day_injective}
 use Rattle.jiff_core.proofs.SignedLemmas.{signed_arith}
 use Rattle.jiff_fmt.specs.Text.{date_text, time_text, fraction_part, places}
 use Rattle.rt_value.specs.Calendar.{year_at, month_at, day_of_month_at}
-use Rattle.rt_value.specs.Moments.{two_digits, fraction_places, fraction_shown, date_shown, clock_shown}
+use Rattle.rt_value.specs.Moments.{six_digits, fraction_places, fraction_shown, date_shown, clock_shown}
 use Rattle.rt_value.proofs.CalendarDays.{date_at, library_day}
 
 library_date : (d : Date) (n : ℕ) → n < 3652059 → epoch_day d +ℤ pos 4371587 ≡ pos (3652425 + n)
@@ -27,15 +27,12 @@ library_date d n h e =
     } in
     epoch_day_injective d mine (omega (arith, signed_arith, e, number, at.is))
 
-pub date_printed : (d : Date) (n : ℕ) → n < 3652059 → epoch_day d +ℤ pos 4371587 ≡ pos (3652425 + n) → date_text d ≡ date_shown n
+pub date_printed : (d : Date) (n : ℕ) → n < 3652059 → epoch_day d +ℤ pos 4371587 ≡ pos (3652425 + n) → date_text d
+    ≡ date_shown n
 unfolding date_shown
 date_printed d n h e = let p = library_date d n h e in rw (p.0, p.1, p.2) refl
 
--- the six digits of microseconds
-abbrev pub six : ℕ → List ℕ
-six u = two_digits (u / 10000) ++ two_digits (u / 100 % 100) ++ two_digits (u % 100)
-
-places_six : (u : ℕ) → u < 1000000 → places 6 1000000000 (u * 1000) ≡ six u
+places_six : (u : ℕ) → u < 1000000 → places 6 1000000000 (u * 1000) ≡ six_digits u
 unfolding places
 places_six u h =
     let a : 48 + u * 1000 / 100000000 ≡ 48 + u / 10000 / 10 = omega arith in
@@ -54,25 +51,30 @@ choose P n k rest zero other =
     ]
 
 -- how many places, by cases
-pub by_places : (u : ℕ) (P : ℕ → Type 0) → (u ≡ 0 → P 0) → ((u ≡ 0 → ⊥) → u % 100000 ≡ 0 → P 1) → ((u ≡ 0 → ⊥) → u % 10000 ≡ 0 → P 2)
-    → ((u ≡ 0 → ⊥) → u % 1000 ≡ 0 → P 3) → ((u ≡ 0 → ⊥) → u % 100 ≡ 0 → P 4) → ((u ≡ 0 → ⊥) → u % 10 ≡ 0 → P 5) → ((u ≡ 0 → ⊥) → P 6)
+pub by_places : (u : ℕ) (P : ℕ → Type 0) → (u ≡ 0 → P 0) → ((u ≡ 0 → ⊥) → u % 100000 ≡ 0 → P 1) →
+    ((u ≡ 0 → ⊥) → u % 10000 ≡ 0 → P 2)
+    → ((u ≡ 0 → ⊥) → u % 1000 ≡ 0 → P 3) → ((u ≡ 0 → ⊥) → u % 100 ≡ 0 → P 4) → ((u ≡ 0 → ⊥) → u % 10 ≡ 0 → P 5) →
+    ((u ≡ 0 → ⊥) → P 6)
     → P (fraction_places u)
 unfolding fraction_places
 by_places u P f0 f1 f2 f3 f4 f5 f6 =
-    choose P u 0 _ f0 (λ z. choose P (u % 100000) 1 _ (f1 z) (λ _. choose P (u % 10000) 2 _ (f2 z) (λ _. choose P (u % 1000) 3 _ (f3 z)
+    choose P u 0 _ f0 (λ z. choose P (u % 100000) 1 _ (f1 z)
+    (λ _. choose P (u % 10000) 2 _ (f2 z) (λ _. choose P (u % 1000) 3 _ (f3 z)
     (λ _. choose P (u % 100) 4 _ (f4 z) (λ _. choose P (u % 10) 5 6 (f5 z) (λ _. f6 z))))))
 
 -- the fraction with so many places
 abbrev pub with_places : ℕ → ℕ → List ℕ
-with_places u k = cond (u == 0) [] (46 ∷ take k (six u))
+with_places u k = cond (u == 0) [] (46 ∷ take k (six_digits u))
 
 abbrev PrintsWith : ℕ → ℕ → Type 0
 PrintsWith u k = fraction_part (Some k) (u * 1000) ≡ with_places u k
 
-some_places : (u k : ℕ) → u < 1000000 → (places k 1000000000 (u * 1000) ≡ take k (places 6 1000000000 (u * 1000))) → (fraction_part (Some k) (u * 1000) ≡ 46 ∷ places k 1000000000 (u * 1000))
+some_places : (u k : ℕ) → u < 1000000 → (places k 1000000000 (u * 1000) ≡ take k (places 6 1000000000 (u * 1000))) →
+    (fraction_part (Some k) (u * 1000) ≡ 46 ∷ places k 1000000000 (u * 1000))
     → (u ≡ 0 → ⊥) → PrintsWith u k
 some_places u k h front whole z =
-    whole ∙ ap (λ xs. 46 ∷ xs) (front ∙ ap (take k) (places_six u h)) ∙ sym (ap (λ b. cond b [] (46 ∷ take k (six u))) (ne_eqb _ _ z))
+    whole ∙ ap (λ xs. 46 ∷ xs) (front ∙ ap (take k) (places_six u h)) ∙ sym
+    (ap (λ b. cond b [] (46 ∷ take k (six_digits u))) (ne_eqb _ _ z))
 
 pub fraction_printed : (u : ℕ) → u < 1000000 → fraction_part (Some (fraction_places u)) (u * 1000) ≡ fraction_shown u
 unfolding fraction_shown places
@@ -86,7 +88,8 @@ fraction_printed u h =
     (λ z _. some_places u 5 h refl refl z)
     (λ z. some_places u 6 h refl refl z)
 
-pub clock_printed : (t : Time) (seconds u : ℕ) → u < 1000000 → t.hour ≡ seconds / 3600 → t.minute ≡ seconds / 60 % 60 → t.second ≡ seconds % 60
+pub clock_printed : (t : Time) (seconds u : ℕ) → u < 1000000 → t.hour ≡ seconds / 3600 → t.minute ≡ seconds / 60 % 60
+    → t.second ≡ seconds % 60
     → t.subsec_nanosecond ≡ u * 1000 → time_text (Some (fraction_places u)) t ≡ clock_shown seconds ++ fraction_shown u
 unfolding clock_shown
 clock_printed t seconds u h hour minute second subsec =

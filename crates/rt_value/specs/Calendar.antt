@@ -1,4 +1,5 @@
--- The Gregorian calendar in the years from 1 on (ISO 8601): days counted from 0001-01-01, which is day 0, and the date of such a day.
+-- The Gregorian calendar in the years from 1 on (ISO 8601): days counted from 0001-01-01, which is day 0, and the date of
+-- such a day.
 use Rattle.std.specs.Prelude.{◌≡◌, true, pos, ◌-ℤ◌, ℕ, suc, ◌+◌, ◌-◌, ◌*◌, ◌/◌, ◌%◌, ◌==◌, nat_lt, nat_le, Bool, ◌&&◌, ◌||◌, not, if◌then◌else◌, List, [], ◌∷◌, take}
 use Rattle.std.specs.List.{slice_index}
 use Rattle.jiff_core.specs.declared.civil.date.Date.{Date}
@@ -9,7 +10,8 @@ abbrev pub is_leap : ℕ → Bool
 is_leap year = (year % 4 == 0) && (not (year % 100 == 0) || (year % 400 == 0))
 
 abbrev pub month_lengths : ℕ → List ℕ
-month_lengths year = 31 ∷ (if is_leap year then 29 else 28) ∷ 31 ∷ 30 ∷ 31 ∷ 30 ∷ 31 ∷ 31 ∷ 30 ∷ 31 ∷ 30 ∷ 31 ∷ []
+month_lengths year =
+    31 ∷ (if is_leap year then 29 else 28) ∷ 31 ∷ 30 ∷ 31 ∷ 30 ∷ 31 ∷ 31 ∷ 30 ∷ 31 ∷ 30 ∷ 31 ∷ []
 
 -- the calendar has the date, in one of the years from 1 to 9999
 unfoldable pub is_date : ℕ → ℕ → ℕ → Bool
@@ -21,6 +23,7 @@ is_date year month day =
 abbrev pub day_behind : ℕ → ℕ
 day_behind years = 365 * years + years / 4 - years / 100 + years / 400
 
+-- the sum
 abbrev pub total : List ℕ → ℕ
 total [] = 0
 total (n ∷ ns) = n + total ns

@@ -1,4 +1,5 @@
--- Moments: microseconds from 1970-01-01 00:00:00 UTC, as PostgreSQL writes them ("Date/Time Types", `timestamp with time zone`).
+-- Moments: microseconds from 1970-01-01 00:00:00 UTC, as PostgreSQL writes them ("Date/Time Types", `timestamp with time
+-- zone`).
 use Rattle.std.specs.Prelude.{◌≡◌, ◌⊎◌, true, ℕ, ◌+◌, ◌-◌, ◌*◌, ◌/◌, ◌%◌, ◌^◌, ◌==◌, nat_lt, ℤ, pos, neg_ℤ, ◌+ℤ◌, ◌-ℤ◌, ◌*ℤ◌, int_le, int_lt, unsigned_abs, Bool, ◌&&◌, ◌||◌, not, if◌then◌else◌, List, [], ◌∷◌, ◌++◌, length, take, drop, codes, Option, Some}
 use Rattle.std.specs.Char.{is_ascii_digit}
 use Rattle.std.specs.List.{slice_index, position_or_len}
@@ -26,7 +27,8 @@ micros_to_1970 = 62135596800000000
 unfoldable pub is_in_years : ℤ → Bool
 is_in_years m = int_le (neg_ℤ (pos micros_to_1970)) m && int_lt m (pos 253402300800000000)
 
--- what a mark of a picture stands for: `0` for any digit, `T` also for a blank, `+` also for `-`, and each other mark for itself
+-- what a mark of a picture stands for: `0` for any digit, `T` also for a blank, `+` also for `-`, and each other mark for
+-- itself
 abbrev pub is_like : ℕ → ℕ → Bool
 is_like mark b =
     first_case
@@ -68,11 +70,14 @@ civil_in_text text =
 -- nothing, or a dot and 1 to 6 digits: the microseconds
 unfoldable pub fraction_in_text : List ℕ → Option ℕ
 fraction_in_text text =
-    some_if (looks_like (take (length text) (codes ".000000")) text && not (length text == 1)) (10000 * two_at text 1 + 100 * two_at text 3 + two_at text 5)
+    some_if (looks_like (take (length text) (codes ".000000")) text && not (length text == 1))
+    (10000 * two_at text 1 + 100 * two_at text 3 + two_at text 5)
 
 -- `Z`, or `+` or `-` and `HH`, `HH:MM` or `HH:MM:SS`
 unfoldable pub is_zone : List ℕ → Bool
-is_zone text = bytes_eq text (codes "Z") || ((length text % 3 == 0) && not (length text == 0) && looks_like (take (length text) (codes "+00:00:00")) text)
+is_zone text =
+    bytes_eq text (codes "Z")
+    || ((length text % 3 == 0) && not (length text == 0) && looks_like (take (length text) (codes "+00:00:00")) text)
 
 -- the seconds east of UTC, less than 16 hours
 unfoldable pub zone_in_text : List ℕ → Option ℤ
@@ -122,27 +127,33 @@ fraction_places micros =
     ∷ (micros % 10 == 0, 5)
     ∷ []) 6
 
+abbrev pub six_digits : ℕ → List ℕ
+six_digits n = two_digits (n / 10000) ++ two_digits (n / 100 % 100) ++ two_digits (n % 100)
+
 unfoldable pub fraction_shown : ℕ → List ℕ
 fraction_shown micros =
     if micros == 0 then []
-    else 46 ∷ take (fraction_places micros) (two_digits (micros / 10000) ++ two_digits (micros / 100 % 100) ++ two_digits (micros % 100))
+    else 46 ∷ take (fraction_places micros) (six_digits micros)
 
 unfoldable pub date_shown : ℕ → List ℕ
 date_shown day =
     let year = year_at day in
-    two_digits (year / 100) ++ two_digits (year % 100) ++ 45 ∷ two_digits (month_at day) ++ 45 ∷ two_digits (day_of_month_at day)
+    two_digits (year / 100) ++ two_digits (year % 100) ++ 45 ∷ two_digits (month_at day)
+    ++ 45 ∷ two_digits (day_of_month_at day)
 
 unfoldable pub clock_shown : ℕ → List ℕ
-clock_shown seconds = two_digits (seconds / 3600) ++ 58 ∷ two_digits (seconds / 60 % 60) ++ 58 ∷ two_digits (seconds % 60)
+clock_shown seconds =
+    two_digits (seconds / 3600) ++ 58 ∷ two_digits (seconds / 60 % 60) ++ 58 ∷ two_digits (seconds % 60)
 
 -- so many microseconds behind 0001-01-01 00:00:00
 unfoldable pub instant_shown : ℕ → List ℕ
 instant_shown micros =
     let seconds = micros / 1000000 in
-    date_shown (seconds / 86400) ++ 84 ∷ clock_shown (seconds % 86400) ++ fraction_shown (micros % 1000000) ++ codes "+00:00"
+    date_shown (seconds / 86400) ++ 84 ∷ clock_shown (seconds % 86400) ++ fraction_shown (micros % 1000000)
+    ++ codes "+00:00"
 
--- `YYYY-MM-DDTHH:MM:SS` in UTC, a dot and the microseconds without trailing zeros where they aren't 0, and `+00:00`; a number that is no
--- moment is shown as nothing
+-- `YYYY-MM-DDTHH:MM:SS` in UTC, a dot and the microseconds without trailing zeros where they aren't 0, and `+00:00`; a
+-- number that is no moment is shown as nothing
 unfoldable pub moment_shown : ℤ → List ℕ
 moment_shown m =
     first_case

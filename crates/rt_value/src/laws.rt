@@ -1,7 +1,7 @@
 //! Laws of the definitions, for the proofs of the crates above. Each is a function with an empty
 //! body.
 
-ghost use Rattle.std.specs.Prelude.{◌≡◌, ◌≢◌, ◌↔◌, ℕ, ℤ, true, ◌∷◌, List};
+ghost use Rattle.std.specs.Prelude.{◌≡◌, ◌≢◌, ◌↔◌, ℕ, ℤ, IsUtf8, true, ◌∷◌, List};
 ghost use Rattle.std.specs.Prelude.{Option, None, Some, option_map};
 ghost use Rattle.std.specs.Prelude.{Contains, IsPermutation};
 ghost use Rattle.std.specs.List.{AllByRecursion, IsDistinct, list_any};
@@ -109,7 +109,8 @@ pub fn in_order_sorts<K>()
         sorted ≡ in_order cmp keys }
 {}
 
-/// What is shown of a moment is read as that moment.
+/// What is shown of a moment is read as that moment, and is UTF-8.
 pub fn shown_moments_are_read()
-    ensures { (m : ℤ) → IsMoment m → moment_in_text (moment_shown m) ≡ Some m }
+    ensures same { (m : ℤ) → IsMoment m → moment_in_text (moment_shown m) ≡ Some m }
+    ensures utf8 { (m : ℤ) → IsUtf8 (moment_shown m) }
 {}

@@ -27,12 +27,13 @@ impl From<AllocError> for ValueFault {
 
 /// The value that a text has in a kind. Whole numbers are an optional `+` or `-` and one or more
 /// digits, in the range of the kind; truth values are `t`, `true`, `f` and `false`; a uuid is in
-/// any form that the crate `uuid` reads; a moment is `YYYY-MM-DD`, a blank or `T`, `HH:MM:SS`, at most
-/// six places of the second, and a zone, `Z` or an offset below 16 hours, of a date in the years 1 to
-/// 9999 before and after the change to UTC, or `infinity` or `-infinity`; a text is itself.
+/// any form that the crate `uuid` reads; a moment is `YYYY-MM-DD`, a blank or `T`, `HH:MM:SS`, at
+/// most six places of the second, and a zone, `Z` or an offset below 16 hours, of a date in the
+/// years 1 to 9999 before and after the change to UTC, or `infinity` or `-infinity`; a text is
+/// itself.
 ///
-/// `BadText` where the text has no value in the kind, which is each text where the kind is opaque or
-/// `Json`.
+/// `BadText` where the text has no value in the kind, which is each text where the kind is opaque
+/// or `Json`.
 pub fn from_text(alloc: Global, kind: Kind, text: &str) -> Result<Value, ValueFault>
     ensures ok { IfOk result (λ value. value_in_text kind text.now ≡ Some value) }
     ensures bad { IsErrOf result ValueFault.BadText ↔ (value_in_text kind text.now ≡ None) }

@@ -35,7 +35,9 @@ pub fn compared(alloc: Global, given: &str) -> io::Result<String> {
 /// How the moment of a text, or of `number` and a number, is shown.
 pub fn shown(alloc: Global, given: &str) -> io::Result<String> {
     let moment = match given.strip_prefix("number ") {
-        Some(number) => number.parse::<i64>().map_err(|_| io::ErrorKind::InvalidInput)?,
+        Some(number) => number
+            .parse::<i64>()
+            .map_err(|_| io::ErrorKind::InvalidInput)?,
         None => moment_in(alloc, given)?,
     };
     let mut answer = String::new(alloc);

@@ -11,7 +11,8 @@ returns-in-Ok c =
     let year : to_z w16 c.args.year ≡ pos c.args.year = omega (arith, ints, high) in
     let month : to_z w8 c.args.month ≡ pos c.args.month = omega (arith, ints, months) in
     let day : to_z w8 c.args.day ≡ pos c.args.day = omega (arith, ints, days) in
-    library_date c.in-Ok.date c.args.year c.args.month c.args.day low (value.0 ∙ year) (omega (arith, ints, value.1, month)) (omega (arith, ints, value.2, day))
+    library_date c.in-Ok.date c.args.year c.args.month c.args.day low (value.0 ∙ year)
+    (omega (arith, ints, value.1, month)) (omega (arith, ints, value.2, day))
 
 pub returns-in-Err : goal.returns-in-Err
 returns-in-Err c =
@@ -20,5 +21,6 @@ returns-in-Err c =
     let month : to_z w8 c.args.month ≡ pos c.args.month = omega (arith, ints, months) in
     let day : to_z w8 c.args.day ≡ pos c.args.day = omega (arith, ints, days) in
     no_date c.args.year c.args.month c.args.day (λ f.
-    let asks : IsDate (to_z w16 c.args.year) (to_z w8 c.args.month) (to_z w8 c.args.day) = rw (year, month, day) (library_asks c.args.year c.args.month c.args.day f) in
+    let asks : IsDate (to_z w16 c.args.year) (to_z w8 c.args.month) (to_z w8 c.args.day) = rw (year, month, day)
+    (library_asks c.args.year c.args.month c.args.day f) in
     let no : false ≡ true = c.in-Err.ensures.succeeds.1 asks in absurd (cc))
