@@ -6,7 +6,7 @@ use Rattle.std.specs.Ordering.{nat_cmp, int_cmp, bool_cmp, ordering_then, is_eq}
 use Rattle.std.specs.declared.cmp.Ordering.{Ordering}
 use Rattle.std.specs.declared.cmp.Ordering.TheVariants.{Less, Equal, Greater}
 use Rattle.rt_value.specs.declared.value.Value.{Value}
-use Rattle.rt_value.specs.declared.value.Value.TheVariants.{Null, Int, Text, Bool as Truth, Uuid, Opaque}
+use Rattle.rt_value.specs.declared.value.Value.TheVariants.{Null, Int, Text, Bool as Truth, Uuid, Moment, Opaque}
 use Rattle.rt_value.specs.declared.row.Key.{Key}
 use Rattle.rt_value.specs.Order.{compared, value_cmp, key_cmp, same_key, variant_of, int_in, text_in, truth_in, uuid_in}
 use Rattle.rt_value.specs.TotalOrder.{key_total}
@@ -49,7 +49,8 @@ rebuilt (suc zero) n t b u = Int n
 rebuilt (suc (suc zero)) n t b u = Text t
 rebuilt (suc (suc (suc zero))) n t b u = Truth b
 rebuilt (suc (suc (suc (suc zero)))) n t b u = Uuid u
-rebuilt (suc (suc (suc (suc (suc v))))) n t b u = Opaque
+rebuilt (suc (suc (suc (suc (suc zero))))) n t b u = Moment n
+rebuilt (suc (suc (suc (suc (suc (suc v)))))) n t b u = Opaque
 
 rebuilt_is : (v : Value) → rebuilt (variant_of v) (int_in v) (text_in v) (truth_in v) (uuid_in v) ≡ v
 unfolding rebuilt
@@ -58,6 +59,7 @@ rebuilt_is (Int n) = refl
 rebuilt_is (Text t) = refl
 rebuilt_is (Truth b) = refl
 rebuilt_is (Uuid u) = refl
+rebuilt_is (Moment n) = refl
 rebuilt_is Opaque = refl
 
 pub value_ties : TiesEqual value_cmp
@@ -108,4 +110,5 @@ agrees (Int a) (Int b) o h = then_equal (int_cmp a b) ∙ some_is h
 agrees (Text a) (Text b) o h = then_equal (slice_cmp nat_cmp a b) ∙ some_is h
 agrees (Truth a) (Truth b) o h = then_equal (bool_cmp a b) ∙ some_is h
 agrees (Uuid a) (Uuid b) o h = some_is h
+agrees (Moment a) (Moment b) o h = then_equal (int_cmp a b) ∙ some_is h
 agrees a b o h = absurd (cc)

@@ -1,11 +1,11 @@
--- How values compare: whole numbers and uuids by value, texts by bytes, false before true. A null or opaque value
--- compares with nothing, and no value compares with one of another variant.
+-- How values compare: whole numbers, uuids and moments by value, texts by bytes, false before true. A null or opaque
+-- value compares with nothing, and no value compares with one of another variant.
 use Rattle.std.specs.Prelude.{ℕ, Bool, false, ℤ, pos, List, [], Option, Some, None}
 use Rattle.std.specs.declared.cmp.Ordering.{Ordering}
 use Rattle.std.specs.Ordering.{nat_cmp, int_cmp, bool_cmp, ordering_then, is_eq, is_lt}
 use Rattle.std.specs.Cmp.Lexicographic.{slice_cmp}
 use Rattle.rt_value.specs.declared.value.Value.{Value}
-use Rattle.rt_value.specs.declared.value.Value.TheVariants.{Null, Int, Text, Bool as Truth, Uuid, Opaque}
+use Rattle.rt_value.specs.declared.value.Value.TheVariants.{Null, Int, Text, Bool as Truth, Uuid, Moment, Opaque}
 use Rattle.rt_value.specs.declared.row.Key.{Key}
 use Rattle.rt_value.specs.Choice.{is_at}
 
@@ -14,6 +14,7 @@ compared (Int a) (Int b) = Some (int_cmp a b)
 compared (Text a) (Text b) = Some (slice_cmp nat_cmp a b)
 compared (Truth a) (Truth b) = Some (bool_cmp a b)
 compared (Uuid a) (Uuid b) = Some (nat_cmp a b)
+compared (Moment a) (Moment b) = Some (int_cmp a b)
 compared _ _ = None
 
 -- the first is less; false where the two do not compare
@@ -30,10 +31,13 @@ variant_of (Int n) = 1
 variant_of (Text t) = 2
 variant_of (Truth b) = 3
 variant_of (Uuid n) = 4
-variant_of Opaque = 5
+variant_of (Moment n) = 5
+variant_of Opaque = 6
 
+-- the number of a whole number or a moment
 abbrev pub int_in : Value → ℤ
 int_in (Int n) = n
+int_in (Moment n) = n
 int_in _ = pos 0
 
 abbrev pub text_in : Value → List ℕ

@@ -1,6 +1,6 @@
 -- The first place at which a list can't go on to a phrase, and how a reader step by step goes on.
 -- `Written tree xs` says that xs are a phrase, all of them, and that it is read as the tree.
-use Rattle.std.specs.Prelude.{◌≡◌, ℕ, ◌+◌, ◌<◌, ◌≤◌, List, [], ◌∷◌, ◌++◌, length, take, Option, Some, None}
+use Rattle.std.specs.Prelude.{ℕ, ◌+◌, ◌<◌, ◌≤◌, List, [], ◌∷◌, ◌++◌, length, take, Option, Some, None}
 
 -- some phrase begins with these elements
 pub record Begins {T X : Type 0} (Written : T → List X → Type 0) (xs : List X) : Type 0 where

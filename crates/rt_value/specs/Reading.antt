@@ -5,10 +5,11 @@ use Rattle.std.specs.Str.{bytes_eq, all_ascii_digits}
 use Rattle.std.specs.Str.Parse.{without_leading_sign, signed_digits_value}
 use Rattle.uuid.specs.Text.{parsed}
 use Rattle.rt_value.specs.declared.value.Value.{Value}
-use Rattle.rt_value.specs.declared.value.Value.TheVariants.{Int, Text, Bool as Truth, Uuid}
+use Rattle.rt_value.specs.declared.value.Value.TheVariants.{Int, Text, Bool as Truth, Uuid, Moment}
 use Rattle.rt_value.specs.declared.value.Kind.{Kind}
 use Rattle.rt_value.specs.declared.value.Kind.TheVariants as kind
 use Rattle.rt_value.specs.Choice.{◌>>=◌, some_if, first_case}
+use Rattle.rt_value.specs.Moments.{moment_in_text}
 
 -- one or more decimal digits, and nothing else
 abbrev pub is_numeral : List ℕ → Bool
@@ -37,7 +38,7 @@ truth_in_text text =
 abbrev pub uuid_in_text : List ℕ → Option ℕ
 uuid_in_text text = option_map (from_be_bytes w128) (parsed text)
 
--- the value of a text in a kind; no text is read in an opaque kind
+-- the value of a text in a kind; no text is read in an opaque kind or in a JSON kind
 abbrev pub value_in_text : Kind → List ℕ → Option Value
 value_in_text kind.Int2 text = option_map Int (int_in_text 16 text)
 value_in_text kind.Int4 text = option_map Int (int_in_text 32 text)
@@ -46,4 +47,6 @@ value_in_text kind.Text text = Some (Text text)
 value_in_text kind.Varchar text = Some (Text text)
 value_in_text kind.Bool text = option_map Truth (truth_in_text text)
 value_in_text kind.Uuid text = option_map Uuid (uuid_in_text text)
+value_in_text kind.Timestamptz text = option_map Moment (moment_in_text text)
+value_in_text kind.Json text = None
 value_in_text kind.Opaque text = None

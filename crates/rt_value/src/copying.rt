@@ -14,6 +14,7 @@ impl Value {
             Value::Text(text) => Value::Text(text.copy(alloc)?),
             Value::Bool(b) => Value::Bool(*b),
             Value::Uuid(n) => Value::Uuid(*n),
+            Value::Moment(n) => Value::Moment(*n),
             Value::Opaque => Value::Opaque,
         })
     }

@@ -1,7 +1,7 @@
 //! Laws of the definitions, for the proofs of the crates above. Each is a function with an empty
 //! body.
 
-ghost use Rattle.std.specs.Prelude.{◌≡◌, ◌≢◌, ◌↔◌, ℕ, true, ◌∷◌, List};
+ghost use Rattle.std.specs.Prelude.{◌≡◌, ◌≢◌, ◌↔◌, ℕ, ℤ, IsUtf8, true, ◌∷◌, List};
 ghost use Rattle.std.specs.Prelude.{Option, None, Some, option_map};
 ghost use Rattle.std.specs.Prelude.{Contains, IsPermutation};
 ghost use Rattle.std.specs.List.{AllByRecursion, IsDistinct, list_any};
@@ -14,6 +14,7 @@ ghost use Rattle.rt_value.specs.declared.row.Key.{Key};
 ghost use Rattle.rt_value.specs.declared.row.Row.{Row};
 ghost use Rattle.rt_value.specs.declared.edit.Edit.{Edit};
 ghost use Rattle.rt_value.specs.declared.edit.Edit.TheVariants.{Put, Remove, Clear, Nothing};
+ghost use Rattle.rt_value.specs.Moments.{IsMoment, moment_in_text, moment_shown};
 ghost use Rattle.rt_value.specs.Order.{compared, value_cmp, key_cmp, same_key};
 ghost use Rattle.rt_value.specs.Ordered.{in_order};
 ghost use Rattle.rt_value.specs.Rows.{is_rising, row_at};
@@ -106,4 +107,10 @@ pub fn in_order_sorts<K>()
     ensures only { (cmp : K → K → Ordering) (keys sorted : List K) → IsTotalOrder cmp →
         IsDistinct (eq_by_cmp cmp) keys → IsPermutation keys sorted → IsSorted cmp sorted →
         sorted ≡ in_order cmp keys }
+{}
+
+/// What is shown of a moment is read as that moment, and is UTF-8.
+pub fn shown_moments_are_read()
+    ensures same { (m : ℤ) → IsMoment m → moment_in_text (moment_shown m) ≡ Some m }
+    ensures utf8 { (m : ℤ) → IsUtf8 (moment_shown m) }
 {}

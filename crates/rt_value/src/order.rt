@@ -4,7 +4,8 @@ ghost use Rattle.rt_value.specs.Order.{compared, variant_of};
 use crate::{Key, Value};
 use std::cmp::Ordering;
 
-/// The order of two values: whole numbers and uuids by value, texts by bytes, false before true.
+/// The order of two values: whole numbers, uuids and moments by value, texts by bytes, false
+/// before true.
 /// `None` where one is null or opaque, or the two are not of one variant.
 pub fn compare(a: &Value, b: &Value) -> Option<Ordering>
     ensures { result ≡ compared a.now b.now }
@@ -14,6 +15,7 @@ pub fn compare(a: &Value, b: &Value) -> Option<Ordering>
         (Value::Text(x), Value::Text(y)) => Some(x.cmp(y)),
         (Value::Bool(x), Value::Bool(y)) => Some(x.cmp(y)),
         (Value::Uuid(x), Value::Uuid(y)) => Some(x.cmp(y)),
+        (Value::Moment(x), Value::Moment(y)) => Some(x.cmp(y)),
         _ => None,
     }
 }
@@ -28,7 +30,8 @@ impl Value {
             Value::Text(_) => 2,
             Value::Bool(_) => 3,
             Value::Uuid(_) => 4,
-            Value::Opaque => 5,
+            Value::Moment(_) => 5,
+            Value::Opaque => 6,
         }
     }
 }
@@ -91,6 +94,7 @@ impl Ord for Value {
             (Value::Text(x), Value::Text(y)) => x.cmp(y),
             (Value::Bool(x), Value::Bool(y)) => x.cmp(y),
             (Value::Uuid(x), Value::Uuid(y)) => x.cmp(y),
+            (Value::Moment(x), Value::Moment(y)) => x.cmp(y),
             _ => self.variant().cmp(&other.variant()),
         }
     }

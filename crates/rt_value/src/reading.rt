@@ -2,6 +2,7 @@ ghost use Rattle.std.specs.Prelude.{◌≡◌, ◌↔◌, None, Some, IfOk, OnEr
 ghost use Rattle.rt_value.specs.declared.reading.ValueFault.TheVariants.{NoMemory};
 ghost use Rattle.rt_value.specs.Reading.{int_in_text, truth_in_text, uuid_in_text, value_in_text};
 
+use crate::moments::moment;
 use crate::{Kind, Text, Value};
 use std::alloc::{AllocError, Global};
 use thiserror::Error;
@@ -26,9 +27,13 @@ impl From<AllocError> for ValueFault {
 
 /// The value that a text has in a kind. Whole numbers are an optional `+` or `-` and one or more
 /// digits, in the range of the kind; truth values are `t`, `true`, `f` and `false`; a uuid is in
-/// any form that the crate `uuid` reads; a text is itself.
+/// any form that the crate `uuid` reads; a moment is `YYYY-MM-DD`, a blank or `T`, `HH:MM:SS`, at
+/// most six places of the second, and a zone, `Z` or an offset below 16 hours, of a date in the
+/// years 1 to 9999 before and after the change to UTC, or `infinity` or `-infinity`; a text is
+/// itself.
 ///
-/// `BadText` where the text has no value in the kind, which is each text where the kind is opaque.
+/// `BadText` where the text has no value in the kind, which is each text where the kind is opaque
+/// or `Json`.
 pub fn from_text(alloc: Global, kind: Kind, text: &str) -> Result<Value, ValueFault>
     ensures ok { IfOk result (λ value. value_in_text kind text.now ≡ Some value) }
     ensures bad { IsErrOf result ValueFault.BadText ↔ (value_in_text kind text.now ≡ None) }
@@ -48,7 +53,8 @@ fn read(alloc: Global, kind: Kind, text: &str) -> Result<Option<Value>, AllocErr
         Kind::Text | Kind::Varchar => Some(Value::Text(Text::new(String::from_str(alloc, text)?))),
         Kind::Bool => truth(text).map(Value::Bool),
         Kind::Uuid => uuid(text).map(Value::Uuid),
-        Kind::Opaque => None,
+        Kind::Timestamptz => moment(text).map(Value::Moment),
+        Kind::Json | Kind::Opaque => None,
     })
 }
 

@@ -14,6 +14,10 @@ pub enum Kind {
     Varchar,
     Bool,
     Uuid,
+    /// A moment: `timestamp with time zone`.
+    Timestamptz,
+    /// `json` or `jsonb`, whose values are shown as trees and never judged.
+    Json,
     /// A type whose values are passed on and never judged.
     Opaque,
 }
@@ -29,6 +33,9 @@ pub enum Value {
     Bool(bool),
     /// The number that the sixteen bytes write, first byte first.
     Uuid(u128),
-    /// A value of an opaque kind, of which nothing is kept.
+    /// The microseconds from 1970-01-01 00:00:00 UTC, negative before it. `infinity` is the greatest
+    /// number, `-infinity` the least.
+    Moment(i64),
+    /// A value of an opaque kind or of a JSON kind, of which nothing is kept.
     Opaque,
 }

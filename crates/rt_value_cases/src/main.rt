@@ -27,6 +27,7 @@ fn answer_text(alloc: Global, case: &str) -> io::Result<String> {
     match question {
         "read" => values::read(alloc, given),
         "compare" => values::compared(alloc, given),
+        "show" => values::shown(alloc, given),
         "copy" => copies::row(alloc, given),
         "claims" => copies::claims(alloc, given),
         "shared" => copies::shared(alloc, given),

@@ -1,4 +1,4 @@
-use rt_value::{Kind, Text, Value, ValueFault, compare, from_text};
+use rt_value::{Kind, Text, Value, ValueFault, compare, from_text, shown_moment};
 use std::alloc::{AllocError, Global};
 use std::cmp::Ordering;
 use std::fmt::Write;
@@ -32,6 +32,27 @@ pub fn compared(alloc: Global, given: &str) -> io::Result<String> {
     Ok(String::from_str(alloc, order)?)
 }
 
+/// How the moment of a text, or of `number` and a number, is shown.
+pub fn shown(alloc: Global, given: &str) -> io::Result<String> {
+    let moment = match given.strip_prefix("number ") {
+        Some(number) => number
+            .parse::<i64>()
+            .map_err(|_| io::ErrorKind::InvalidInput)?,
+        None => moment_in(alloc, given)?,
+    };
+    let mut answer = String::new(alloc);
+    push_quoted(&mut answer, &shown_moment(alloc, moment)?)?;
+    Ok(answer)
+}
+
+fn moment_in(alloc: Global, text: &str) -> io::Result<i64> {
+    match from_text(alloc, Kind::Timestamptz, text) {
+        Ok(Value::Moment(moment)) => Ok(moment),
+        Ok(_) | Err(ValueFault::BadText) => Err(io::ErrorKind::InvalidInput.into()),
+        Err(ValueFault::NoMemory) => Err(io::ErrorKind::OutOfMemory.into()),
+    }
+}
+
 /// The value that a word of a case stands for.
 pub fn value_in(alloc: Global, word: &str) -> io::Result<Value> {
     let Some((kind, text)) = word.split_once(':') else {
@@ -57,6 +78,8 @@ fn kind_named(name: &str) -> io::Result<Kind> {
         "varchar" => Ok(Kind::Varchar),
         "bool" => Ok(Kind::Bool),
         "uuid" => Ok(Kind::Uuid),
+        "timestamptz" => Ok(Kind::Timestamptz),
+        "json" => Ok(Kind::Json),
         "opaque" => Ok(Kind::Opaque),
         _ => Err(io::ErrorKind::InvalidInput.into()),
     }
@@ -70,6 +93,7 @@ pub fn push_value(answer: &mut String, value: &Value) -> Result<(), AllocError> 
         Value::Text(text) => push_quoted(answer, text),
         Value::Bool(b) => write!(answer, "{b}"),
         Value::Uuid(n) => write!(answer, "{n:032x}"),
+        Value::Moment(n) => write!(answer, "{n}"),
         Value::Opaque => answer.push_str("opaque"),
     }
 }
