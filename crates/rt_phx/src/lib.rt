@@ -9,6 +9,7 @@ mod fault;
 mod message;
 mod parts;
 pub mod saying;
+mod sharing;
 pub mod trees;
 
 pub use decoding::{decode, one_message};
@@ -16,3 +17,4 @@ pub use encoding::{encode, encoded_again};
 pub use end::EndName;
 pub use fault::PhxFault;
 pub use message::{Message, Posting, Version};
+pub use sharing::messages_may_be_shared;
