@@ -48,8 +48,10 @@ all_pass tests cells = list_all (λ t. passes t cells) tests
 abbrev pub value_limit : ℕ
 value_limit = 100
 
+-- values of the kind aren't judged
 abbrev pub is_opaque : Kind → Bool
 is_opaque kind.Opaque = true
+is_opaque kind.Json = true
 is_opaque _ = false
 
 -- each text read in a kind

@@ -14,7 +14,7 @@ const VALUE_LIMIT: usize = 100;
 
 /// The test of a filter on a table's columns, with the column's place and the values read in its
 /// kind. The first reason why there is none: `ColumnHidden` where there is no such column or it
-/// isn't selectable, `Opaque` where its kind is opaque, `TooMany` where there are more than 100
+/// isn't selectable, `Opaque` where its kind is opaque or `Json`, `TooMany` where there are more than 100
 /// values, `BadValue` where a value can't be read in its kind.
 ///
 /// Memory is taken for the values alone, so `NoMemory` never comes in the place of the first three.
@@ -59,7 +59,7 @@ fn column_of(filter: &Filter, columns: &[Shown]) -> Result<(usize, Kind), Filter
     let n = filter.values.get().len();
     if !shown.selectable {
         Err(FilterFault::ColumnHidden)
-    } else if shown.kind == Kind::Opaque {
+    } else if matches!(shown.kind, Kind::Opaque | Kind::Json) {
         Err(FilterFault::Opaque)
     } else if n > VALUE_LIMIT {
         Err(FilterFault::TooMany { n })

@@ -17,7 +17,7 @@ pub enum FilterFault {
     /// There is no such column, or the role may not SELECT it.
     #[error("column")]
     ColumnHidden,
-    /// The column's kind is opaque.
+    /// The column's kind is opaque or `Json`.
     #[error("opaque column")]
     Opaque,
     /// There are more than 100 values.

@@ -13,6 +13,8 @@ fn kind_named(name: &str) -> Option<Kind> {
         "varchar" => Some(Kind::Varchar),
         "bool" => Some(Kind::Bool),
         "uuid" => Some(Kind::Uuid),
+        "timestamptz" => Some(Kind::Timestamptz),
+        "json" => Some(Kind::Json),
         "opaque" => Some(Kind::Opaque),
         _ => None,
     }

@@ -10,4 +10,5 @@ value_of (lent.Int n) = value.Int n
 value_of (lent.Text t) = value.Text t.now
 value_of (lent.Bool b) = value.Bool b
 value_of (lent.Uuid n) = value.Uuid n
+value_of (lent.Moment n) = value.Moment n
 value_of lent.Opaque = value.Opaque

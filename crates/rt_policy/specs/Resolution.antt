@@ -31,7 +31,7 @@ use Rattle.rt_policy.specs.Types.{meaning_of}
 
 -- kinds that compare with each other
 pub data Group : Type 0 where
-  whole text truth uuid : Group
+  whole text truth uuid moment : Group
 
 abbrev pub group_of : Kind → Option Group
 group_of kind.Int2 = Some whole
@@ -41,6 +41,8 @@ group_of kind.Text = Some text
 group_of kind.Varchar = Some text
 group_of kind.Bool = Some truth
 group_of kind.Uuid = Some uuid
+group_of kind.Timestamptz = Some moment
+group_of kind.Json = None
 group_of kind.Opaque = None
 
 abbrev pub same_group : Group → Group → Bool
@@ -48,6 +50,7 @@ same_group whole whole = true
 same_group text text = true
 same_group truth truth = true
 same_group uuid uuid = true
+same_group moment moment = true
 same_group _ _ = false
 
 -- how a text literal is read in a group
@@ -56,6 +59,7 @@ kind_in whole = kind.Int8
 kind_in text = kind.Text
 kind_in truth = kind.Bool
 kind_in uuid = kind.Uuid
+kind_in moment = kind.Timestamptz
 
 -- what a part of an expression means
 pub data Meaning : Type 0 where
@@ -147,7 +151,7 @@ abbrev pub read_as : Kind → List ℕ → Option Group → Meaning
 read_as k t None = mistyped
 read_as k t (Some g) = typed_or g (constant (value_in_text k t))
 
--- a cast is of a text literal to one of the seven kinds, or of a number literal to a whole number kind whose range holds it
+-- a cast is of a text literal to one of the eight judged kinds, or of a number literal to a whole number kind whose range holds it
 abbrev pub cast_meaning : Literal → Kind → Meaning
 cast_meaning (literal.Text t) k = read_as k t (group_of k)
 cast_meaning (literal.Number minus digits) k = read_as k (number_text minus digits) (group_of k >>= λ g. some_if (same_group g whole) g)
@@ -204,7 +208,7 @@ column_found scope reading (Some qualifier) name =
 abbrev pub judge_of : Found → Judge
 judge_of f = if f.inner then judge.Inner f.column else judge.Outer f.column
 
--- a column of an opaque kind is refused wherever it stands
+-- a column of an opaque kind or of a JSON kind is refused wherever it stands
 abbrev pub typed_column : Found → Option Group → Meaning
 typed_column f None = mistyped
 typed_column f (Some g) = typed g (judge_of f)
@@ -219,7 +223,7 @@ qualifier_of table alias = unwrap_or alias table
 abbrev pub reading_of : Option (List ℕ) → ℕ × TableView → Reading
 reading_of alias t = record { number = t.0; table = t.1; qualifier = qualifier_of t.1.name alias }
 
--- what an EXISTS selects is looked up, and is of no opaque kind
+-- what an EXISTS selects is looked up, and is of a judged kind
 abbrev pub selected_meaning : Scope → Reading → Selected → Meaning
 selected_meaning scope r (selected.Column qualifier name) = column_meaning (column_found scope (Some r) qualifier name)
 selected_meaning scope r _ = typed truth (judge.Literal (value.Bool true))

@@ -2,7 +2,7 @@
 use Rattle.std.specs.Prelude.{ℕ, Bool, true, false, if◌then◌else◌, List, [], ◌∷◌, ◌++◌, codes, Option, Some, None, option_map, unwrap_or, find}
 use Rattle.std.specs.Str.{bytes_eq}
 use Rattle.rt_value.specs.declared.value.Kind.{Kind}
-use Rattle.rt_value.specs.declared.value.Kind.TheVariants.{Int2, Int4, Int8, Text, Varchar, Bool as Truth, Uuid, Opaque}
+use Rattle.rt_value.specs.declared.value.Kind.TheVariants.{Int2, Int4, Int8, Text, Varchar, Bool as Truth, Uuid, Timestamptz, Json, Opaque}
 use Rattle.rt_policy.specs.declared.expr.TypeName.{TypeName}
 use Rattle.rt_policy.specs.declared.expr.TypeName.TheVariants.{TimestampWithTimeZone, TimestampWithoutTimeZone, DoublePrecision, CharacterVarying, Named}
 
@@ -23,7 +23,8 @@ kind_names =
     ∷ (codes "bigint", type_of Int8 (codes "int8")) ∷ (codes "bigserial", type_of Int8 (codes "int8")) ∷ (codes "int8", type_of Int8 (codes "int8"))
     ∷ (codes "text", type_of Text (codes "text")) ∷ (codes "varchar", type_of Varchar (codes "varchar"))
     ∷ (codes "boolean", type_of Truth (codes "bool")) ∷ (codes "bool", type_of Truth (codes "bool"))
-    ∷ (codes "uuid", type_of Uuid (codes "uuid")) ∷ []
+    ∷ (codes "uuid", type_of Uuid (codes "uuid")) ∷ (codes "timestamptz", type_of Timestamptz (codes "timestamptz"))
+    ∷ (codes "json", type_of Json (codes "json")) ∷ (codes "jsonb", type_of Json (codes "jsonb")) ∷ []
 
 -- the names of an opaque type that is shown by another name
 abbrev pub opaque_names : List (List ℕ × TypeMeaning)
@@ -42,7 +43,7 @@ array_of false t = t
 array_of true t = type_of Opaque (codes "_" ++ t.shown)
 
 abbrev pub meaning_of : TypeName → TypeMeaning
-meaning_of TimestampWithTimeZone = type_of Opaque (codes "timestamptz")
+meaning_of TimestampWithTimeZone = type_of Timestamptz (codes "timestamptz")
 meaning_of TimestampWithoutTimeZone = type_of Opaque (codes "timestamp")
 meaning_of DoublePrecision = type_of Opaque (codes "float8")
 meaning_of CharacterVarying = type_of Varchar (codes "varchar")

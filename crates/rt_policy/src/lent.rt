@@ -15,6 +15,7 @@ pub enum LentValue<'a> {
     Text(&'a str),
     Bool(bool),
     Uuid(u128),
+    Moment(i64),
     Opaque,
 }
 
@@ -28,6 +29,7 @@ pub fn lend(value: &Value) -> LentValue<'_>
         Value::Text(text) => LentValue::Text(text.get()),
         Value::Bool(b) => LentValue::Bool(*b),
         Value::Uuid(n) => LentValue::Uuid(*n),
+        Value::Moment(n) => LentValue::Moment(*n),
         Value::Opaque => LentValue::Opaque,
     }
 }
@@ -41,6 +43,7 @@ pub fn order(a: LentValue<'_>, b: LentValue<'_>) -> Option<Ordering>
         (LentValue::Text(x), LentValue::Text(y)) => Some(x.cmp(y)),
         (LentValue::Bool(x), LentValue::Bool(y)) => Some(x.cmp(&y)),
         (LentValue::Uuid(x), LentValue::Uuid(y)) => Some(x.cmp(&y)),
+        (LentValue::Moment(x), LentValue::Moment(y)) => Some(x.cmp(&y)),
         _ => None,
     }
 }

@@ -24,6 +24,8 @@ fn read_long(alloc: Global, word: &str) -> io::Result<Value> {
     if let Some(digits) = word.strip_prefix('#') {
         let uuid = format!(in alloc; "00000000-0000-4000-8000-0000000000{digits}")?;
         value_in(alloc, Kind::Uuid, uuid.as_str())
+    } else if let Some(moment) = word.strip_prefix('@') {
+        value_in(alloc, Kind::Timestamptz, moment)
     } else if let Some(text) = quoted(word) {
         value_in(alloc, Kind::Text, text)
     } else {
@@ -31,8 +33,8 @@ fn read_long(alloc: Global, word: &str) -> io::Result<Value> {
     }
 }
 
-/// Reads null, a truth value, a whole number, a text in single quotes, or a uuid by its last two
-/// digits, as `#a1`.
+/// Reads null, a truth value, a whole number, a text in single quotes, a uuid by its last two
+/// digits, as `#a1`, or a moment behind `@`, without blanks.
 pub fn read_value(alloc: Global, word: &str) -> io::Result<Value> {
     match word {
         "null" => Ok(Value::Null),
