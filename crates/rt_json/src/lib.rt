@@ -11,8 +11,6 @@ mod scan;
 mod stack;
 mod state;
 mod stop;
-#[cfg(test)]
-mod tests;
 mod text;
 mod tree;
 mod writing;
