@@ -12,8 +12,6 @@ mod sharing;
 mod stack;
 mod state;
 mod stop;
-#[cfg(test)]
-mod tests;
 mod text;
 mod tree;
 mod writing;
