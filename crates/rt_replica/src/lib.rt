@@ -1,7 +1,9 @@
 //! The tables that a stream rebuilds.
 #![tactic(auto)]
 
+pub mod laws;
 mod sharing;
+mod table;
 mod tables;
 
 pub use sharing::tables_may_be_shared;
