@@ -1,9 +1,7 @@
 -- The audit of the runs of other examples: of each change and each subscription of its table a line, with the poll's
 -- number, the change's place in it, the subscription and the verdict.
-use Rattle.std.specs.Prelude.{◌≡◌, ℕ, List, [], ◌∷◌, codes}
-use Rattle.rt_catalog.specs.declared.catalog.Catalog.{Catalog}
+use Rattle.std.specs.Prelude.{◌≡◌, [], ◌∷◌, codes}
 use Rattle.rt_change.specs.declared.change.Change.{Change}
-use Rattle.rt_entry.specs.declared.input.Input.{Input}
 use Rattle.rt_entry.specs.declared.input.Input.TheVariants.{Poll}
 use Rattle.rt_entry.specs.Audit.{audit_lines}
 use Rattle.rt_examples.specs.Notes as first
