@@ -1,9 +1,12 @@
+mod AuditsComputed
+mod CrowdComputed
 mod CutsComputed
 mod DeletesComputed
 mod ErrorsComputed
 mod ExpiryComputed
 mod FiltersComputed
 mod FramesComputed
+mod GoneComputed
 mod IdentitiesComputed
 mod MembershipsComputed
 mod NotesComputed

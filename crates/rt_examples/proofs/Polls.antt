@@ -15,8 +15,10 @@ use Rattle.rt_entry.specs.declared.story.Member.{Member}
 use Rattle.rt_entry.specs.declared.story.Part.{Part}
 use Rattle.rt_entry.specs.declared.story.Part.TheVariants.{Tells}
 use Rattle.rt_entry.specs.declared.entry.ChannelView.{ChannelView}
-use Rattle.rt_entry.specs.Story.{Story, Line, joined_by, departed_in, renewed_by, has, first_or, joined, departed, members_at, standing_at, member_in, now_of, tables_left}
-use Rattle.rt_entry.specs.Doings.{change_parts, change_parts_to, change_parts_to_all, poll_parts, gets, doings, story, subscriptions, view_of}
+use Rattle.rt_entry.specs.Story.{Story, Line, joined_by, departed_in, renewed_by, has, first_or, joined, departed}
+use Rattle.rt_entry.specs.Story.{members_at, standing_at, member_in, now_of, tables_left}
+use Rattle.rt_entry.specs.Doings.{change_parts, change_parts_to, change_parts_to_all, poll_parts, gets}
+use Rattle.rt_entry.specs.Doings.{doings, story, subscriptions, view_of}
 
 abbrev TellsOnly : List Part → Type 0
 TellsOnly [] = Unit {0}
@@ -28,7 +30,8 @@ tells-append [] qs h k = k
 tells-append (Tells slot m ∷ ps) qs h k = tells-append ps qs h k
 tells-append (p ∷ ps) qs h k = absurd h
 
-tells-flat_map : {A : Type 0} (f : A → List Part) → ((x : A) → TellsOnly (f x)) → (xs : List A) → TellsOnly (flat_map f xs)
+tells-flat_map : {A : Type 0} (f : A → List Part) → ((x : A) → TellsOnly (f x))
+    → (xs : List A) → TellsOnly (flat_map f xs)
 tells-flat_map f h [] = tt
 tells-flat_map f h (x ∷ xs) = tells-append (f x) (flat_map f xs) (h x) (tells-flat_map f h xs)
 
@@ -55,20 +58,23 @@ module _ (c : Catalog) (s : Settings) where
   change_tells_all : (subs : List Subscription) (tables : List (List Row)) (views : List ChannelView) (ch : Change)
       → TellsOnly (change_parts_to_all c s subs tables views ch)
   change_tells_all subs tables views ch =
-      elim (is_truncate ch.verb) as (λ b. TellsOnly (elim b [ true ↦ [] | false ↦ flat_map (change_parts_to c s subs tables ch) views ])) [
+      let each : ChannelView → List Part = change_parts_to c s subs tables ch in
+      elim (is_truncate ch.verb) as (λ b. TellsOnly (elim b [ true ↦ [] | false ↦ flat_map each views ])) [
         | true ↦ tt
-        | false ↦ tells-flat_map (change_parts_to c s subs tables ch) (λ to. change_tells to ch (filter (gets c s tables ch to.channel) subs)) views
+        | false ↦ tells-flat_map each (λ to. change_tells to ch (filter (gets c s tables ch to.channel) subs)) views
       ]
 
   poll_tells : (subs : List Subscription) (tables : List (List Row)) (views : List ChannelView) (changes : List Change)
       → TellsOnly (poll_parts c s subs tables views changes)
   unfolding poll_parts
-  poll_tells subs tables views changes = tells-flat_map (change_parts_to_all c s subs tables views) (change_tells_all subs tables views) changes
+  poll_tells subs tables views changes =
+      tells-flat_map (change_parts_to_all c s subs tables views) (change_tells_all subs tables views) changes
 
 module _ (l : Line) (before : Story) (only : TellsOnly l.parts) where
   joined_stay : joined (l ∷ before) ≡ joined before
   unfolding joined
-  joined_stay = ap (λ cs. reverse (cs ++ flat_map (λ (k : Line). filter_map joined_by k.parts) before)) (no_joins l.parts only)
+  joined_stay =
+      ap (λ cs. reverse (cs ++ flat_map (λ (k : Line). filter_map joined_by k.parts) before)) (no_joins l.parts only)
 
   departed_stay : departed (l ∷ before) ≡ departed before
   unfolding departed
@@ -81,7 +87,8 @@ module _ (l : Line) (before : Story) (only : TellsOnly l.parts) where
   standing_stays : (ch : Channel) → standing_at (l ∷ before) ch ≡ standing_at before ch
   unfolding standing_at
   standing_stays ch =
-      ap (λ ss. first_or ch.standing (ss ++ flat_map (λ (k : Line). filter_map (renewed_by ch.number) k.parts) before)) (no_renewals ch.number l.parts only)
+      ap (λ ss. first_or ch.standing (ss ++ flat_map (λ (k : Line). filter_map (renewed_by ch.number) k.parts) before))
+      (no_renewals ch.number l.parts only)
 
   member_stays : (ch : Channel) → member_in (l ∷ before) ch ≡ member_in before ch
   member_stays ch = ap (λ (st : Standing). record { channel = ch; standing = st }) (standing_stays ch)
@@ -99,5 +106,7 @@ unfolding story doings
 members_after_poll c s before changes =
     let st = story c s before in
     let ms = (now_of st).members in
-    now_members_stay (record { input = Poll changes; parts = poll_parts c s (subscriptions ms) (tables_left c st (Poll changes)) (map view_of ms) changes }) st
-    (poll_tells c s (subscriptions ms) (tables_left c st (Poll changes)) (map view_of ms) changes)
+    let tables : List (List Row) = tables_left c st (Poll changes) in
+    let parts : List Part = poll_parts c s (subscriptions ms) tables (map view_of ms) changes in
+    now_members_stay (record { input = Poll changes; parts = parts }) st
+    (poll_tells c s (subscriptions ms) tables (map view_of ms) changes)

@@ -21,7 +21,8 @@ use Rattle.rt_examples.proofs.Polls.{members_after_poll}
 use Rattle.rt_examples.specs.Computes.{computes}
 use Rattle.rt_examples.specs.Notes.{settings}
 use Rattle.rt_examples.specs.Policies.{is_shared, own_is, is_shared_is, owns}
-use Rattle.rt_examples.specs.Rooms.{MembersSeeRooms, rooms, room_rules, room_key, member_key, user, of_role, joined, made, left, gone}
+use Rattle.rt_examples.specs.Rooms.{MembersSeeRooms, rooms, room_rules, room_key, member_key, user, of_role}
+use Rattle.rt_examples.specs.Rooms.{joined, made, left, gone}
 
 abbrev who : ℕ → Who
 who n = record { role = 1; bypass = false; claims = user n }
@@ -43,37 +44,52 @@ view : ℕ → ℕ → (ℕ → List Row) → View
 view fuel n tables = view_by tables (visibility_within fuel room_rules (who n) tables)
 
 -- a caller sees its own memberships
-seen_member : (n : ℕ) (tables : ℕ → List Row) → visibility_within 1 room_rules (who n) tables 1 member ≡ seen_if (owns (who n) member)
+seen_member : (n : ℕ) (tables : ℕ → List Row)
+    → visibility_within 1 room_rules (who n) tables 1 member ≡ seen_if (owns (who n) member)
 unfolding view
 seen_member n tables = ap seen_if (own_is (who n) (view 0 n tables) member)
 
+abbrev lobby : List ℕ
+lobby = codes "Lobby"
+
+abbrev hall : List ℕ
+hall = codes "Hall"
+
+-- how the room is seen
+abbrev seen_by : Who → List ℕ → List Row → Seen
+seen_by caller title members = visibility room_rules caller (rows title members) 0 (room title)
+
 seen_room : (n : ℕ) (title : List ℕ) (members : List Row)
-    → visibility room_rules (who n) (rows title members) 0 (room title) ≡ seen_if (is_true (truth (who n) (view 1 n (rows title members)) is_shared (room title)))
+    → seen_by (who n) title members
+    ≡ seen_if (is_true (truth (who n) (view 1 n (rows title members)) is_shared (room title)))
 unfolding visibility view
 seen_room n title members = refl
 
 -- with its member's row, the room is seen where that row is
-with_member : (n : ℕ) → visibility room_rules (who n) (rows (codes "Lobby") (member ∷ [])) 0 (room (codes "Lobby")) ≡ seen_if (is_yes (seen_if (owns (who n) member)))
+with_member : (n : ℕ) → seen_by (who n) lobby (member ∷ []) ≡ seen_if (is_yes (seen_if (owns (who n) member)))
 unfolding view
 with_member n =
-    let tables = rows (codes "Lobby") (member ∷ []) in
-    seen_room n (codes "Lobby") (member ∷ [])
-    ∙ ap seen_if (is_shared_is (who n) (view 1 n tables) (room (codes "Lobby")))
+    let tables = rows lobby (member ∷ []) in
+    seen_room n lobby (member ∷ [])
+    ∙ ap seen_if (is_shared_is (who n) (view 1 n tables) (room lobby))
     ∙ ap (λ s. seen_if (is_true (truth_in (value.Bool ((is_yes s && true) || false))))) (seen_member n tables)
     ∙ settled (owns (who n) member)
   where
-    settled : (b : Bool) → seen_if (is_true (truth_in (value.Bool ((is_yes (seen_if b) && true) || false)))) ≡ seen_if (is_yes (seen_if b))
+    settled : (b : Bool)
+        → seen_if (is_true (truth_in (value.Bool ((is_yes (seen_if b) && true) || false))))
+        ≡ seen_if (is_yes (seen_if b))
     settled true = refl
     settled false = refl
 
 -- without it nobody sees it by the policy
-without_member : (n : ℕ) → visibility room_rules (who n) (rows (codes "Hall") []) 0 (room (codes "Hall")) ≡ NonePermits
+without_member : (n : ℕ) → seen_by (who n) hall [] ≡ NonePermits
 unfolding view
 without_member n =
-    seen_room n (codes "Hall") [] ∙ ap seen_if (is_shared_is (who n) (view 1 n (rows (codes "Hall") [])) (room (codes "Hall")))
+    seen_room n hall [] ∙ ap seen_if (is_shared_is (who n) (view 1 n (rows hall [])) (room hall))
 
 abbrev judged : ℕ → ℕ → ℕ → Seen → Judged
-judged poll place sub s = record { poll = poll; place = place; table = 0; subscription = sub; verdict = verdict_of_seen s }
+judged poll place sub s =
+    record { poll = poll; place = place; table = 0; subscription = sub; verdict = verdict_of_seen s }
 
 abbrev service : Who
 service = record { role = 2; bypass = true; claims = of_role (codes "service_role") }
@@ -83,10 +99,10 @@ anon = record { role = 0; bypass = false; claims = of_role (codes "anon") }
 
 abbrev seen_of : List ℕ → List Row → Seen × Seen × Seen × Seen
 seen_of title members = (
-  visibility room_rules (who 161) (rows title members) 0 (room title),
-  visibility room_rules (who 162) (rows title members) 0 (room title),
-  visibility room_rules service (rows title members) 0 (room title),
-  visibility room_rules anon (rows title members) 0 (room title),
+  seen_by (who 161) title members,
+  seen_by (who 162) title members,
+  seen_by service title members,
+  seen_by anon title members,
 )
 
 -- the service role and anon need no policy's truth
@@ -98,13 +114,25 @@ anon_has_no_policy : (tables : ℕ → List Row) (row : Row) → visibility room
 unfolding visibility
 anon_has_no_policy tables row = refl
 
-seen_in_lobby : seen_of (codes "Lobby") (member ∷ []) ≡ (Yes, NonePermits, Yes, NoPolicy)
+seen_in_lobby : seen_of lobby (member ∷ []) ≡ (Yes, NonePermits, Yes, NoPolicy)
 seen_in_lobby =
-    λ i. (with_member 161 i, with_member 162 i, service_sees (rows (codes "Lobby") (member ∷ [])) (room (codes "Lobby")) i, anon_has_no_policy (rows (codes "Lobby") (member ∷ [])) (room (codes "Lobby")) i)
+    let tables = rows lobby (member ∷ []) in
+    λ i. (
+      with_member 161 i,
+      with_member 162 i,
+      service_sees tables (room lobby) i,
+      anon_has_no_policy tables (room lobby) i,
+    )
 
-seen_in_hall : seen_of (codes "Hall") [] ≡ (NonePermits, NonePermits, Yes, NoPolicy)
+seen_in_hall : seen_of hall [] ≡ (NonePermits, NonePermits, Yes, NoPolicy)
 seen_in_hall =
-    λ i. (without_member 161 i, without_member 162 i, service_sees (rows (codes "Hall") []) (room (codes "Hall")) i, anon_has_no_policy (rows (codes "Hall") []) (room (codes "Hall")) i)
+    let tables = rows hall [] in
+    λ i. (
+      without_member 161 i,
+      without_member 162 i,
+      service_sees tables (room hall) i,
+      anon_has_no_policy tables (room hall) i,
+    )
 
 abbrev first_poll : Seen × Seen × Seen × Seen → List Judged
 first_poll p = judged 8 1 1 p.0 ∷ judged 8 1 2 p.1 ∷ judged 8 1 3 p.2 ∷ judged 8 1 4 p.3 ∷ []
@@ -115,21 +143,25 @@ second_poll q = judged 9 1 1 q.0 ∷ judged 9 1 2 q.1 ∷ judged 9 1 3 q.2 ∷ j
 abbrev third_poll : List Judged
 third_poll = judged 10 0 1 Yes ∷ judged 10 0 2 Yes ∷ judged 10 0 3 Yes ∷ judged 10 0 4 Yes ∷ []
 
-first_judged : judged_input rooms settings joined (Poll made) ≡ first_poll (seen_of (codes "Lobby") (member ∷ []))
+first_judged : judged_input rooms settings joined (Poll made) ≡ first_poll (seen_of lobby (member ∷ []))
 unfolding computes judged_poll
 first_judged = refl
 
 -- a later poll by the members that it finds
 abbrev second_by : List Member → List Judged
-second_by ms = judged_poll rooms 9 (tables_left rooms (story rooms settings (Poll made ∷ joined)) (Poll left)) (subscriptions ms) left
+second_by ms =
+    judged_poll rooms 9 (tables_left rooms (story rooms settings (Poll made ∷ joined)) (Poll left)) (subscriptions ms)
+    left
 
 abbrev third_by : List Member → List Judged
-third_by ms = judged_poll rooms 10 (tables_left rooms (story rooms settings (Poll left ∷ Poll made ∷ joined)) (Poll gone)) (subscriptions ms) gone
+third_by ms =
+    let before : List Input = Poll left ∷ Poll made ∷ joined in
+    judged_poll rooms 10 (tables_left rooms (story rooms settings before) (Poll gone)) (subscriptions ms) gone
 
 abbrev members : List Input → List Member
 members journal = (now_of (story rooms settings journal)).members
 
-second_computed : second_by (members joined) ≡ second_poll (seen_of (codes "Hall") [])
+second_computed : second_by (members joined) ≡ second_poll (seen_of hall [])
 unfolding computes judged_poll
 second_computed = refl
 
@@ -137,27 +169,36 @@ third_computed : third_by (members joined) ≡ third_poll
 unfolding computes judged_poll
 third_computed = refl
 
-second_judged : judged_input rooms settings (Poll made ∷ joined) (Poll left) ≡ second_poll (seen_of (codes "Hall") [])
+abbrev in_first : List Judged
+in_first = judged_input rooms settings joined (Poll made)
+
+abbrev in_second : List Judged
+in_second = judged_input rooms settings (Poll made ∷ joined) (Poll left)
+
+abbrev in_third : List Judged
+in_third = judged_input rooms settings (Poll left ∷ Poll made ∷ joined) (Poll gone)
+
+second_judged : in_second ≡ second_poll (seen_of hall [])
 second_judged = ap second_by (members_after_poll rooms settings joined made) ∙ second_computed
 
-third_judged : judged_input rooms settings (Poll left ∷ Poll made ∷ joined) (Poll gone) ≡ third_poll
+third_judged : in_third ≡ third_poll
 third_judged =
-    ap third_by (members_after_poll rooms settings (Poll made ∷ joined) left) ∙ ap third_by (members_after_poll rooms settings joined made) ∙ third_computed
+    ap third_by (members_after_poll rooms settings (Poll made ∷ joined) left)
+    ∙ ap third_by (members_after_poll rooms settings joined made) ∙ third_computed
 
 abbrev lines : List Judged → List Judged → List Judged → List ℕ
 lines a b c = flat_map (audit_line rooms) (((audit rooms settings joined ++ a) ++ b) ++ c)
 
-in_three : audit_lines rooms settings (Poll gone ∷ Poll left ∷ Poll made ∷ joined) ≡
-    lines (judged_input rooms settings joined (Poll made)) (judged_input rooms settings (Poll made ∷ joined) (Poll left)) (judged_input rooms settings (Poll left ∷ Poll made ∷ joined) (Poll gone))
+in_three : audit_lines rooms settings (Poll gone ∷ Poll left ∷ Poll made ∷ joined) ≡ lines in_first in_second in_third
 unfolding audit
 in_three = refl
 
 pub members_see_rooms_holds : MembersSeeRooms
 unfolding computes audit
 members_see_rooms_holds =
+    let first : List Judged = first_poll (Yes, NonePermits, Yes, NoPolicy) in
+    let second : List Judged = second_poll (NonePermits, NonePermits, Yes, NoPolicy) in
     in_three
-    ∙ ap (λ a. lines a (judged_input rooms settings (Poll made ∷ joined) (Poll left)) (judged_input rooms settings (Poll left ∷ Poll made ∷ joined) (Poll gone)))
-    (first_judged ∙ ap first_poll seen_in_lobby)
-    ∙ ap (λ b. lines (first_poll (Yes, NonePermits, Yes, NoPolicy)) b (judged_input rooms settings (Poll left ∷ Poll made ∷ joined) (Poll gone)))
-    (second_judged ∙ ap second_poll seen_in_hall)
-    ∙ ap (λ c. lines (first_poll (Yes, NonePermits, Yes, NoPolicy)) (second_poll (NonePermits, NonePermits, Yes, NoPolicy)) c) third_judged
+    ∙ ap (λ a. lines a in_second in_third) (first_judged ∙ ap first_poll seen_in_lobby)
+    ∙ ap (λ b. lines first b in_third) (second_judged ∙ ap second_poll seen_in_hall)
+    ∙ ap (λ c. lines first second c) third_judged

@@ -1,7 +1,8 @@
 -- Computed.
 use Rattle.std.proofs.Common.{refl}
 use Rattle.rt_catalog.specs.Refusals.{lists_of}
-use Rattle.rt_examples.specs.Statements.{StatementsMeanLists, OpaqueKeyIsRefused, SecondRoleIsRefused, PublicIsNoRole, UnknownColumnIsRefused}
+use Rattle.rt_examples.specs.Statements.{StatementsMeanLists, OpaqueKeyIsRefused, SecondRoleIsRefused}
+use Rattle.rt_examples.specs.Statements.{PublicIsNoRole, UnknownColumnIsRefused}
 
 pub statements_mean_lists_holds : StatementsMeanLists
 unfolding lists_of

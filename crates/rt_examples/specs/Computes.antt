@@ -1,5 +1,5 @@
--- All that the examples compute with: `unfolding computes` opens it. A verdict that a policy decides is taken apart by hand, so `but_verdicts` leaves
--- verdicts shut.
+-- All that the examples compute with: `unfolding computes` opens it. A verdict that a policy decides is taken apart by
+-- hand, so `but_verdicts` leaves verdicts shut.
 use Rattle.std.specs.Fmt.{digits}
 use Rattle.sha2.specs.Sha256.{sha256, compress, rounds, schedule, first_words, hash_after, digest_bytes}
 use Rattle.base64.specs.GeneralPurpose.{decoded_of}
@@ -18,21 +18,49 @@ use Rattle.rt_registry.specs.Bindings.{bindings_for}
 use Rattle.rt_private.specs.Rights.{messages_of, right, denial}
 use Rattle.rt_change.specs.Verdicts.{verdict_of}
 use Rattle.rt_change.specs.Shape.{shape_of}
-use Rattle.rt_entry.specs.Story.{joined, departed, members_at, standing_at, ids_given, all_tracks, present_at, edits_at, every_slot, now_of}
+use Rattle.rt_entry.specs.Story.{joined, departed, members_at, standing_at, ids_given, all_tracks, present_at, edits_at}
+use Rattle.rt_entry.specs.Story.{every_slot, now_of}
 use Rattle.rt_entry.specs.Joining.{standing_for, channel_of_join, renewal_of}
 use Rattle.rt_entry.specs.Doings.{subscriptions, poll_parts, doings, story}
 use Rattle.rt_entry.specs.Answers.{told, answers_by, all_answers, answers_of_marks, marks_of, lane_marks}
 use Rattle.rt_entry.specs.Machine.{shown, pending, step_of, run}
 
+-- what a story asks of what stands before
+unfoldable pub asked : Unit {0}
+unfolding joined departed members_at standing_at ids_given all_tracks present_at edits_at every_slot now_of
+asked = tt
+
+-- joins and renewals
+unfoldable pub admitted : Unit {0}
+unfolding config_of filter_of test_of bindings_for standing_for channel_of_join renewal_of messages_of right denial
+admitted = tt
+
+unfoldable pub done : Unit {0}
+unfolding subscriptions poll_parts doings story
+done = tt
+
+-- what slots get, and the machine
+unfoldable pub given : Unit {0}
+unfolding told answers_by all_answers answers_of_marks marks_of lane_marks shown pending step_of run
+given = tt
+
 unfoldable pub but_verdicts : Unit {0}
-unfolding json_computes digits tables_after message_of config_of filter_of test_of bindings_for shape_of joined departed members_at standing_at ids_given all_tracks present_at edits_at every_slot now_of standing_for channel_of_join renewal_of messages_of right denial subscriptions poll_parts doings story told answers_by all_answers answers_of_marks marks_of lane_marks shown pending step_of run
+unfolding json_computes digits tables_after message_of shape_of asked admitted done given
 but_verdicts = tt
 
 unfoldable pub computes : Unit {0}
 unfolding but_verdicts verdict_of
 computes = tt
 
+unfoldable pub base64 : Unit {0}
+unfolding decoded_of groups_error groups_bytes scan_steps encode_symbols
+base64 = tt
+
+unfoldable pub hashes : Unit {0}
+unfolding hmac_sha256 sha256 compress rounds schedule first_words hash_after digest_bytes
+hashes = tt
+
 -- what a token is computed with
 unfoldable pub token_computes : Unit {0}
-unfolding claims_in_token signed_token claims_in_tree hmac_sha256 sha256 compress rounds schedule first_words hash_after digest_bytes decoded_of groups_error groups_bytes scan_steps encode_symbols
+unfolding claims_in_token signed_token claims_in_tree hashes base64
 token_computes = tt

@@ -8,10 +8,11 @@ use Rattle.rt_entry.specs.declared.input.Settings.{Settings}
 use Rattle.rt_entry.specs.declared.input.Step.{Step}
 use Rattle.rt_entry.specs.declared.input.Step.TheVariants.{Arrive, Take, Send, Work, Push, Pop}
 use Rattle.rt_entry.specs.declared.answer.Item.{Item}
-use Rattle.rt_entry.specs.declared.answer.Item.TheVariants.{Message, End}
+use Rattle.rt_entry.specs.declared.answer.Item.TheVariants.{End}
 use Rattle.rt_entry.specs.Answers.{due}
 use Rattle.rt_entry.specs.Machine.{World, start, run, shown}
 use Rattle.rt_examples.specs.Notes.{notes, settings, authenticated}
+use Rattle.rt_examples.specs.Texts.{accepted}
 
 abbrev pub narrow : Settings
 narrow = record settings { capacity = 1 }
@@ -23,17 +24,19 @@ heartbeat ref = Frame 0 (codes "{\"topic\":\"phoenix\",\"event\":\"heartbeat\",\
 abbrev pub brought : Input → List Step
 brought i = Arrive i ∷ Take 0 ∷ Send 0 ∷ Work 0 ∷ []
 
--- The second push finds the outbox full, and the third nothing that is pending. The second opening first ends the first.
+-- The second push finds the outbox full, and the third nothing that is pending. The second opening first ends the
+-- first.
 abbrev pub steps : List Step
 steps =
     brought (Opened 0 V1 authenticated) ++ brought (heartbeat (codes "1")) ++ brought (heartbeat (codes "2"))
-    ++ Push 0 ∷ Push 0 ∷ Push 0 ∷ brought (Opened 0 V1 authenticated) ++ Send 0 ∷ Work 0 ∷ brought (heartbeat (codes "3")) ++ Pop 0 ∷ Push 0 ∷ []
+    ++ Push 0 ∷ Push 0 ∷ Push 0 ∷ brought (Opened 0 V1 authenticated)
+    ++ Send 0 ∷ Work 0 ∷ brought (heartbeat (codes "3")) ++ Pop 0 ∷ Push 0 ∷ []
 
 abbrev pub world : World
 world = run notes narrow steps start
 
 abbrev pub reply : List ℕ → Item
-reply ref = Message (codes "{\"topic\":\"phoenix\",\"event\":\"phx_reply\",\"payload\":{\"status\":\"ok\",\"response\":{}},\"ref\":" ++ ref ++ codes "}")
+reply ref = accepted (codes "phoenix") (codes "{}") ref
 
 abbrev pub given : List Item
 given = reply (codes "1") ∷ End OutboxFull ∷ reply (codes "3") ∷ []

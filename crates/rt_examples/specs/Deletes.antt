@@ -15,9 +15,9 @@ use Rattle.rt_change.specs.declared.change.Verb.TheVariants.{Delete}
 use Rattle.rt_entry.specs.declared.input.Input.{Input}
 use Rattle.rt_entry.specs.declared.input.Input.TheVariants.{Opened, Frame, Poll}
 use Rattle.rt_entry.specs.declared.answer.Item.{Item}
-use Rattle.rt_entry.specs.declared.answer.Item.TheVariants.{Message}
 use Rattle.rt_entry.specs.Answers.{due}
 use Rattle.rt_examples.specs.Notes.{notes, settings, authenticated}
+use Rattle.rt_examples.specs.Texts.{join_for, joined_with, subscribed, changed, content, note_columns}
 use Rattle.rt_examples.specs.Policies.{anyone, reach_anyone}
 
 abbrev pub anyone_policy : Policy
@@ -50,13 +50,16 @@ delete body tree =
     }
 
 abbrev pub binding : List ℕ → List ℕ
-binding filter = codes "{\"event\":\"*\",\"schema\":\"public\",\"table\":\"notes\"" ++ filter ++ codes "}"
+binding filter = codes "\"event\":\"*\",\"schema\":\"public\",\"table\":\"notes\"" ++ filter ++ codes "}"
 
--- three bindings: without a filter, with one on the key, with one on the body
+-- three bindings: without a filter, with one on the key, with one on the body; each begins with this
+abbrev pub bindings : List ℕ → List ℕ → List ℕ → List ℕ
+bindings first second third =
+    first ++ binding [] ++ second ++ binding (codes ",\"filter\":\"id=eq.1\"")
+    ++ third ++ binding (codes ",\"filter\":\"body=eq.hi\"")
+
 abbrev pub join : List ℕ
-join =
-    codes "{\"topic\":\"realtime:notes\",\"event\":\"phx_join\",\"payload\":{\"config\":{\"presence\":{\"enabled\":false},\"postgres_changes\":["
-    ++ binding [] ++ 44 ∷ binding (codes ",\"filter\":\"id=eq.1\"") ++ 44 ∷ binding (codes ",\"filter\":\"body=eq.hi\"") ++ codes "]}},\"ref\":\"1\"}"
+join = join_for (codes "realtime:notes") (bindings (codes "{") (codes ",{") (codes ",{"))
 
 abbrev pub journal : List Input
 journal =
@@ -65,14 +68,14 @@ journal =
 
 abbrev pub deleted : List ℕ → Item
 deleted ids =
-    Message (codes "{\"topic\":\"realtime:notes\",\"event\":\"postgres_changes\",\"payload\":{\"ids\":" ++ ids
-    ++ codes ",\"data\":{\"schema\":\"public\",\"table\":\"notes\",\"type\":\"DELETE\",\"commit_timestamp\":null,\"columns\":[{\"name\":\"id\",\"type\":\"int4\"},{\"name\":\"body\",\"type\":\"text\"}],\"old_record\":{\"id\":1},\"errors\":null}},\"ref\":null}")
+    changed ids (codes "DELETE") (content (codes "null") note_columns (codes "\"old_record\":{\"id\":1}"))
+    (codes "null")
 
 abbrev pub DeletesShowTheKey : Type 0
 DeletesShowTheKey =
     due secured_notes settings journal 0 ≡
-    Message (codes "{\"topic\":\"realtime:notes\",\"event\":\"phx_reply\",\"payload\":{\"status\":\"ok\",\"response\":{\"postgres_changes\":[{\"id\":1,\"event\":\"*\",\"schema\":\"public\",\"table\":\"notes\"},{\"id\":2,\"event\":\"*\",\"schema\":\"public\",\"table\":\"notes\",\"filter\":\"id=eq.1\"},{\"id\":3,\"event\":\"*\",\"schema\":\"public\",\"table\":\"notes\",\"filter\":\"body=eq.hi\"}]}},\"ref\":\"1\"}")
-    ∷ Message (codes "{\"topic\":\"realtime:notes\",\"event\":\"system\",\"payload\":{\"message\":\"Subscribed to PostgreSQL\",\"status\":\"ok\",\"extension\":\"postgres_changes\",\"channel\":\"notes\"},\"ref\":null}")
+    joined_with (codes "realtime:notes") (bindings (codes "{\"id\":1,") (codes ",{\"id\":2,") (codes ",{\"id\":3,"))
+    ∷ subscribed (codes "notes")
     ∷ deleted (codes "[1,2,3]")
     ∷ deleted (codes "[1,2]")
     ∷ []

@@ -10,9 +10,9 @@ use Rattle.rt_change.specs.declared.change.Verb.TheVariants.{Delete}
 use Rattle.rt_entry.specs.declared.input.Input.{Input}
 use Rattle.rt_entry.specs.declared.input.Input.TheVariants.{Opened, Frame, Poll}
 use Rattle.rt_entry.specs.declared.answer.Item.{Item}
-use Rattle.rt_entry.specs.declared.answer.Item.TheVariants.{Message}
 use Rattle.rt_entry.specs.Answers.{due}
-use Rattle.rt_examples.specs.Notes.{notes, settings, authenticated, insert, join_frame}
+use Rattle.rt_examples.specs.Notes.{notes, settings, authenticated, insert, join_frame, join_items}
+use Rattle.rt_examples.specs.Texts.{join_for, joined_with, subscribed, changed, content, note_columns}
 
 abbrev pub without_key : Change
 without_key = record (insert (codes "hi")) { has_key = false }
@@ -48,27 +48,24 @@ joined = Frame 0 join_frame ∷ Opened 0 V1 authenticated ∷ []
 abbrev pub journal : List Input
 journal = Poll (too_large letters_62 ∷ too_large letters_63 ∷ []) ∷ Poll (without_key ∷ delete ∷ []) ∷ joined
 
-abbrev pub change : List ℕ → Item
-change data_text =
-    Message (codes "{\"topic\":\"realtime:notes\",\"event\":\"postgres_changes\",\"payload\":{\"ids\":[1],\"data\":{\"schema\":\"public\",\"table\":\"notes\",\"type\":" ++ data_text ++ codes "}},\"ref\":null}")
+abbrev pub change : List ℕ → List ℕ → List ℕ → Item
+change verb rest errors = changed (codes "[1]") verb rest errors
 
-abbrev pub columns : List ℕ
-columns = codes "\"columns\":[{\"name\":\"id\",\"type\":\"int4\"},{\"name\":\"body\",\"type\":\"text\"}]"
+abbrev pub told : List ℕ → List ℕ
+told records = content (codes "null") note_columns records
 
-abbrev pub join_items : List Item
-join_items =
-    Message (codes "{\"topic\":\"realtime:notes\",\"event\":\"phx_reply\",\"payload\":{\"status\":\"ok\",\"response\":{\"postgres_changes\":[{\"id\":1,\"event\":\"*\",\"schema\":\"public\",\"table\":\"notes\"}]}},\"ref\":\"1\"}")
-    ∷ Message (codes "{\"topic\":\"realtime:notes\",\"event\":\"system\",\"payload\":{\"message\":\"Subscribed to PostgreSQL\",\"status\":\"ok\",\"extension\":\"postgres_changes\",\"channel\":\"notes\"},\"ref\":null}")
-    ∷ []
+abbrev pub too_large_error : List ℕ
+too_large_error = codes "[\"Error 413: Payload Too Large\"]"
 
 abbrev pub ErrorsAreSent : Type 0
 ErrorsAreSent =
     due notes settings journal 0 ≡
     join_items
-    ++ change (codes "\"INSERT\",\"errors\":[\"Error 400: Bad Request, no primary key\"]")
-    ∷ change (codes "\"DELETE\",\"commit_timestamp\":null," ++ columns ++ codes ",\"old_record\":{\"id\":1},\"errors\":null")
-    ∷ change (codes "\"INSERT\",\"commit_timestamp\":null," ++ columns ++ codes ",\"record\":{\"id\":1,\"body\":\"" ++ letters_62 ++ codes "\"},\"errors\":[\"Error 413: Payload Too Large\"]")
-    ∷ change (codes "\"INSERT\",\"commit_timestamp\":null," ++ columns ++ codes ",\"record\":{\"id\":1},\"errors\":[\"Error 413: Payload Too Large\"]")
+    ++ change (codes "INSERT") [] (codes "[\"Error 400: Bad Request, no primary key\"]")
+    ∷ change (codes "DELETE") (told (codes "\"old_record\":{\"id\":1}")) (codes "null")
+    ∷ change (codes "INSERT") (told (codes "\"record\":{\"id\":1,\"body\":\"" ++ letters_62 ++ codes "\"}"))
+    too_large_error
+    ∷ change (codes "INSERT") (told (codes "\"record\":{\"id\":1}")) too_large_error
     ∷ []
 
 -- notes, but: grant select (body) on notes to authenticated;
@@ -76,13 +73,18 @@ abbrev pub body_alone : Catalog
 body_alone = record notes { grants = record { table = 0; column = Some 1; role = Some 0 } ∷ [] }
 
 -- its filter wouldn't pass, but the key comes first
-abbrev pub filtered_join : List ℕ
-filtered_join = codes "{\"topic\":\"realtime:notes\",\"event\":\"phx_join\",\"payload\":{\"config\":{\"presence\":{\"enabled\":false},\"postgres_changes\":[{\"event\":\"*\",\"schema\":\"public\",\"table\":\"notes\",\"filter\":\"body=eq.x\"}]}},\"ref\":\"1\"}"
+abbrev pub filtered : List ℕ
+filtered = codes "\"event\":\"*\",\"schema\":\"public\",\"table\":\"notes\",\"filter\":\"body=eq.x\"}"
+
+abbrev pub hidden_journal : List Input
+hidden_journal =
+    Poll (insert (codes "y") ∷ []) ∷ Frame 0 (join_for (codes "realtime:notes") (codes "{" ++ filtered))
+    ∷ Opened 0 V1 authenticated ∷ []
 
 abbrev pub HiddenKeyIsAnError : Type 0
 HiddenKeyIsAnError =
-    due body_alone settings (Poll (insert (codes "y") ∷ []) ∷ Frame 0 filtered_join ∷ Opened 0 V1 authenticated ∷ []) 0 ≡
-    Message (codes "{\"topic\":\"realtime:notes\",\"event\":\"phx_reply\",\"payload\":{\"status\":\"ok\",\"response\":{\"postgres_changes\":[{\"id\":1,\"event\":\"*\",\"schema\":\"public\",\"table\":\"notes\",\"filter\":\"body=eq.x\"}]}},\"ref\":\"1\"}")
-    ∷ Message (codes "{\"topic\":\"realtime:notes\",\"event\":\"system\",\"payload\":{\"message\":\"Subscribed to PostgreSQL\",\"status\":\"ok\",\"extension\":\"postgres_changes\",\"channel\":\"notes\"},\"ref\":null}")
-    ∷ change (codes "\"INSERT\",\"errors\":[\"Error 401: Unauthorized\"]")
+    due body_alone settings hidden_journal 0 ≡
+    joined_with (codes "realtime:notes") (codes "{\"id\":1," ++ filtered)
+    ∷ subscribed (codes "notes")
+    ∷ change (codes "INSERT") [] (codes "[\"Error 401: Unauthorized\"]")
     ∷ []

@@ -8,12 +8,13 @@ use Rattle.rt_entry.specs.declared.input.Input.TheVariants.{Opened, Frame, Tick}
 use Rattle.rt_entry.specs.declared.answer.Item.TheVariants.{Message, End}
 use Rattle.rt_entry.specs.Answers.{due}
 use Rattle.rt_examples.specs.Notes.{notes, settings, authenticated}
+use Rattle.rt_examples.specs.Texts.{said, join_for, joined_with, accepted}
 
 abbrev pub for_100_seconds : Claims
 for_100_seconds = record authenticated { exp = Some 100 }
 
 abbrev pub join : List ℕ
-join = codes "{\"topic\":\"realtime:t\",\"event\":\"phx_join\",\"payload\":{\"config\":{\"presence\":{\"enabled\":false},\"postgres_changes\":[]}},\"ref\":\"1\"}"
+join = join_for (codes "realtime:t") []
 
 abbrev pub heartbeat : List ℕ
 heartbeat = codes "{\"topic\":\"phoenix\",\"event\":\"heartbeat\",\"ref\":\"2\"}"
@@ -25,9 +26,11 @@ journal = Tick 110000 ∷ Tick 100000 ∷ Frame 0 heartbeat ∷ Tick 50000 ∷ F
 abbrev pub ChannelExpires : Type 0
 ChannelExpires =
     due notes settings journal 0 ≡
-    Message (codes "{\"topic\":\"realtime:t\",\"event\":\"phx_reply\",\"payload\":{\"status\":\"ok\",\"response\":{\"postgres_changes\":[]}},\"ref\":\"1\"}")
-    ∷ Message (codes "{\"topic\":\"phoenix\",\"event\":\"phx_reply\",\"payload\":{\"status\":\"ok\",\"response\":{}},\"ref\":\"2\"}")
-    ∷ Message (codes "{\"topic\":\"realtime:t\",\"event\":\"system\",\"payload\":{\"message\":\"token expired\",\"status\":\"error\",\"extension\":\"system\",\"channel\":\"t\"},\"ref\":null}")
-    ∷ Message (codes "{\"topic\":\"realtime:t\",\"event\":\"phx_close\",\"payload\":{},\"ref\":\"1\"}")
+    joined_with (codes "realtime:t") []
+    ∷ accepted (codes "phoenix") (codes "{}") (codes "\"2\"")
+    ∷ Message (said (codes "realtime:t") (codes "system")
+    (codes "{\"message\":\"token expired\",\"status\":\"error\",\"extension\":\"system\",\"channel\":\"t\"}")
+    (codes "null"))
+    ∷ Message (said (codes "realtime:t") (codes "phx_close") (codes "{}") (codes "\"1\""))
     ∷ End Idle
     ∷ []

@@ -1,5 +1,5 @@
--- An update whose columns give the key alone: a column that only the identity gives is the record's from there, and where nothing gives it the
--- table's row keeps it. It is judged on that row.
+-- An update whose columns give the key alone: a column that only the identity gives is the record's from there, and
+-- where nothing gives it the table's row keeps it. It is judged on that row.
 use Rattle.std.specs.Prelude.{◌≡◌, ℕ, List, [], ◌∷◌, ◌++◌, ◌&&◌, true, false, nat_le, codes, Some, None, pos, Ok}
 use Rattle.std.proofs.Common.{lit<, ap}
 use Rattle.rt_value.specs.declared.value.Value.TheVariants as value
@@ -21,9 +21,10 @@ use Rattle.rt_phx.specs.declared.message.Version.TheVariants.{V1}
 use Rattle.rt_entry.specs.declared.input.Input.{Input}
 use Rattle.rt_entry.specs.declared.input.Input.TheVariants.{Opened, Frame, Poll}
 use Rattle.rt_entry.specs.declared.answer.Item.{Item}
-use Rattle.rt_entry.specs.declared.answer.Item.TheVariants.{Message}
 use Rattle.rt_entry.specs.Answers.{due}
-use Rattle.rt_examples.specs.Notes.{notes, settings, authenticated, insert, join_frame}
+use Rattle.rt_examples.specs.Notes.{notes, settings, authenticated, insert, join_frame, join_items}
+use Rattle.rt_examples.specs.Notes.{inserted as note_inserted}
+use Rattle.rt_examples.specs.Texts.{changed, content, note_columns}
 use Rattle.rt_examples.specs.Policies.{says_hi, reach_says_hi}
 
 abbrev pub hi_policy : Policy
@@ -109,16 +110,19 @@ inserted = Poll (insert (codes "hi") ∷ []) ∷ joined
 -- what the slot gets before the update, and then the update with its record and old record
 abbrev pub items : List ℕ → List ℕ → List Item
 items shown old =
-    Message (codes "{\"topic\":\"realtime:notes\",\"event\":\"phx_reply\",\"payload\":{\"status\":\"ok\",\"response\":{\"postgres_changes\":[{\"id\":1,\"event\":\"*\",\"schema\":\"public\",\"table\":\"notes\"}]}},\"ref\":\"1\"}")
-    ∷ Message (codes "{\"topic\":\"realtime:notes\",\"event\":\"system\",\"payload\":{\"message\":\"Subscribed to PostgreSQL\",\"status\":\"ok\",\"extension\":\"postgres_changes\",\"channel\":\"notes\"},\"ref\":null}")
-    ∷ Message (codes "{\"topic\":\"realtime:notes\",\"event\":\"postgres_changes\",\"payload\":{\"ids\":[1],\"data\":{\"schema\":\"public\",\"table\":\"notes\",\"type\":\"INSERT\",\"commit_timestamp\":\"2024-01-02T03:04:05.678Z\",\"columns\":[{\"name\":\"id\",\"type\":\"int4\"},{\"name\":\"body\",\"type\":\"text\"}],\"record\":{\"id\":1,\"body\":\"hi\"},\"errors\":null}},\"ref\":null}")
-    ∷ Message (codes "{\"topic\":\"realtime:notes\",\"event\":\"postgres_changes\",\"payload\":{\"ids\":[1],\"data\":{\"schema\":\"public\",\"table\":\"notes\",\"type\":\"UPDATE\",\"commit_timestamp\":null,\"columns\":[{\"name\":\"id\",\"type\":\"int4\"},{\"name\":\"body\",\"type\":\"text\"}],\"record\":"
-    ++ shown ++ codes ",\"old_record\":" ++ old ++ codes ",\"errors\":null}},\"ref\":null}")
+    join_items ++ note_inserted (codes "hi")
+    ∷ changed (codes "[1]") (codes "UPDATE")
+    (content (codes "null") note_columns (codes "\"record\":" ++ shown ++ codes ",\"old_record\":" ++ old))
+    (codes "null")
     ∷ []
 
+abbrev pub whole : List ℕ
+whole = codes "{\"id\":1,\"body\":\"hi\"}"
+
 abbrev pub IdentityIsShown : Type 0
-IdentityIsShown = due hi_notes settings (Poll (with_identity ∷ []) ∷ inserted) 0 ≡ items (codes "{\"id\":1,\"body\":\"hi\"}") (codes "{\"id\":1,\"body\":\"hi\"}")
+IdentityIsShown = due hi_notes settings (Poll (with_identity ∷ []) ∷ inserted) 0 ≡ items whole whole
 
 -- delivered, since the table's row kept `hi`
 abbrev pub RowIsKept : Type 0
-RowIsKept = due hi_notes settings (Poll (without_identity ∷ []) ∷ inserted) 0 ≡ items (codes "{\"id\":1}") (codes "{}")
+RowIsKept =
+    due hi_notes settings (Poll (without_identity ∷ []) ∷ inserted) 0 ≡ items (codes "{\"id\":1}") (codes "{}")

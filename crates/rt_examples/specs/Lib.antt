@@ -1,4 +1,6 @@
+pub mod Audits
 pub mod Computes
+pub mod Crowd
 pub mod Cuts
 pub mod Deletes
 pub mod Errors
@@ -7,6 +9,7 @@ pub mod Filters
 pub mod Folds
 pub mod Forms
 pub mod Frames
+pub mod Gone
 pub mod Identities
 pub mod Memberships
 pub mod Notes
@@ -19,6 +22,7 @@ pub mod Renewal
 pub mod Restrictive
 pub mod Rooms
 pub mod Statements
+pub mod Texts
 pub mod Tracks
 pub mod UsualSet
 pub mod Vectors

@@ -17,8 +17,9 @@ use Rattle.rt_change.specs.declared.change.Verb.TheVariants.{Insert, Update}
 use Rattle.rt_entry.specs.declared.input.Input.{Input}
 use Rattle.rt_entry.specs.declared.input.Input.TheVariants.{Opened, Frame, Poll}
 use Rattle.rt_entry.specs.Audit.{audit_lines}
-use Rattle.rt_examples.specs.Notes.{settings}
+use Rattle.rt_examples.specs.Notes.{settings, one}
 use Rattle.rt_examples.specs.Policies.{own, reach_own}
+use Rattle.rt_examples.specs.Texts.{join_for}
 
 abbrev pub own_policy : Policy
 own_policy = record { name = codes "own"; restrictive = false; selects = true; roles = None; judge = Some own }
@@ -36,7 +37,9 @@ docs =
       tables = record {
         schema = codes "public";
         name = codes "docs";
-        columns = record { name = codes "id"; kind = kind.Int4; shown = codes "int4" } ∷ record { name = codes "owner"; kind = kind.Uuid; shown = codes "uuid" } ∷ [];
+        columns =
+            record { name = codes "id"; kind = kind.Int4; shown = codes "int4" }
+            ∷ record { name = codes "owner"; kind = kind.Uuid; shown = codes "uuid" } ∷ [];
         key = 0 ∷ [];
       } ∷ [];
       roles = record { name = codes "authenticated"; bypass = false } ∷ [];
@@ -46,9 +49,6 @@ docs =
 
 abbrev pub user : ℕ → Claims
 user sub = record { role = codes "authenticated"; sub = Some sub; exp = None; members = [] }
-
-abbrev pub one : Key
-one = record { values = value.Int (pos 1) ∷ [] }
 
 -- the row of id 1 with an owner
 abbrev pub owned_by : Verb → Option Key → ℕ → Change
@@ -67,7 +67,7 @@ owned_by verb old owner =
     }
 
 abbrev pub join : List ℕ
-join = codes "{\"topic\":\"realtime:docs\",\"event\":\"phx_join\",\"payload\":{\"config\":{\"presence\":{\"enabled\":false},\"postgres_changes\":[{\"event\":\"*\",\"table\":\"docs\"}]}},\"ref\":\"1\"}"
+join = join_for (codes "realtime:docs") (codes "{\"event\":\"*\",\"table\":\"docs\"}")
 
 -- two callers, 161 and 162
 abbrev pub before : List Input
@@ -79,4 +79,5 @@ changes = owned_by Insert None 161 ∷ owned_by Update (Some one) 162 ∷ []
 
 abbrev pub OwnersAreJudged : Type 0
 OwnersAreJudged =
-    audit_lines docs settings (Poll changes ∷ before) ≡ codes "4 0 1 denied none permits\n4 0 2 delivered\n4 1 1 denied none permits\n4 1 2 delivered\n"
+    audit_lines docs settings (Poll changes ∷ before) ≡
+    codes "4 0 1 denied none permits\n4 0 2 delivered\n4 1 1 denied none permits\n4 1 2 delivered\n"

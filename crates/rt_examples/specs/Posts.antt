@@ -1,5 +1,6 @@
--- A post over HTTP: the channel of its topic gets the message, that of another topic doesn't, and claims that have run out say nothing.
-use Rattle.std.specs.Prelude.{◌≡◌, ℕ, List, [], ◌∷◌, ◌++◌, codes, Some}
+-- A post over HTTP: the channel of its topic gets the message, that of another topic doesn't, and claims that have run
+-- out say nothing.
+use Rattle.std.specs.Prelude.{◌≡◌, ℕ, List, [], ◌∷◌, codes, Some}
 use Rattle.rt_value.specs.declared.claims.Claims.{Claims}
 use Rattle.rt_json.specs.declared.tree.Json.{Num}
 use Rattle.rt_json.specs.declared.tree.Json.TheVariants.{Object}
@@ -12,16 +13,18 @@ use Rattle.rt_entry.specs.declared.answer.Item.{Item}
 use Rattle.rt_entry.specs.declared.answer.Item.TheVariants.{Message}
 use Rattle.rt_entry.specs.Answers.{due}
 use Rattle.rt_examples.specs.Notes.{notes, settings, authenticated}
+use Rattle.rt_examples.specs.Texts.{said, join_of, joined_with}
 
 abbrev pub posting : List ℕ → Posting
-posting topic = record { topic = topic; event = codes "e"; payload = Object (field (codes "x") (Num (codes "1.50")) ∷ []) }
+posting topic =
+    record { topic = topic; event = codes "e"; payload = Object (field (codes "x") (Num (codes "1.50")) ∷ []) }
 
 -- claims that run out at the second 1
 abbrev pub until_1 : Claims
 until_1 = record authenticated { exp = Some 1 }
 
 abbrev pub join : List ℕ
-join = codes "{\"topic\":\"realtime:t\",\"event\":\"phx_join\",\"payload\":{\"config\":{\"presence\":{\"enabled\":false}}},\"ref\":\"1\"}"
+join = join_of (codes "realtime:t") (codes "{\"presence\":{\"enabled\":false}}") (codes "\"1\"")
 
 -- on slot 1, which isn't open; the newest first
 abbrev pub journal : List Input
@@ -33,8 +36,9 @@ journal =
 
 abbrev pub items : List Item
 items =
-    Message (codes "{\"topic\":\"realtime:t\",\"event\":\"phx_reply\",\"payload\":{\"status\":\"ok\",\"response\":{\"postgres_changes\":[]}},\"ref\":\"1\"}")
-    ∷ Message (codes "{\"topic\":\"realtime:t\",\"event\":\"broadcast\",\"payload\":{\"type\":\"broadcast\",\"event\":\"e\",\"payload\":{\"x\":1.50}},\"ref\":null}")
+    joined_with (codes "realtime:t") []
+    ∷ Message (said (codes "realtime:t") (codes "broadcast")
+    (codes "{\"type\":\"broadcast\",\"event\":\"e\",\"payload\":{\"x\":1.50}}") (codes "null"))
     ∷ []
 
 abbrev pub PostsAreHeard : Type 0

@@ -1,6 +1,6 @@
--- A policy that reads another table, which has row security of its own: members of a room see it. A service role bypasses row security, and no
--- policy applies to a role without one.
-use Rattle.std.specs.Prelude.{◌≡◌, ℕ, List, [], ◌∷◌, ◌&&◌, true, false, nat_le, codes, Option, Some, None}
+-- A policy that reads another table, which has row security of its own: members of a room see it. A service role
+-- bypasses row security, and no policy applies to a role without one.
+use Rattle.std.specs.Prelude.{◌≡◌, ℕ, List, [], ◌∷◌, ◌++◌, ◌&&◌, true, false, nat_le, codes, Option, Some, None}
 use Rattle.std.proofs.Common.{lit<, ap, ◌∙◌}
 use Rattle.rt_value.specs.declared.value.Value.TheVariants as value
 use Rattle.rt_value.specs.declared.value.Kind.TheVariants as kind
@@ -8,6 +8,7 @@ use Rattle.rt_value.specs.declared.row.Key.{Key}
 use Rattle.rt_value.specs.declared.edit.Edit.TheVariants.{Put, Remove}
 use Rattle.rt_value.specs.declared.claims.Claims.{Claims}
 use Rattle.rt_phx.specs.declared.message.Version.TheVariants.{V1}
+use Rattle.rt_policy.specs.declared.judge.Judge.{Judge}
 use Rattle.rt_policy.specs.declared.tables.TableRules.{TableRules}
 use Rattle.rt_policy.specs.declared.tables.Policy.{Policy}
 use Rattle.rt_policy.specs.Ranks.{has_no_ring, reach}
@@ -21,14 +22,20 @@ use Rattle.rt_entry.specs.declared.input.Input.TheVariants.{Opened, Frame, Poll}
 use Rattle.rt_entry.specs.Audit.{audit_lines}
 use Rattle.rt_examples.specs.Notes.{settings}
 use Rattle.rt_examples.specs.Policies.{own, is_shared, reach_own, reach_is_shared}
+use Rattle.rt_examples.specs.Texts.{join_for}
+
+-- create policy .. for select to authenticated using (..);
+abbrev pub permits : List ℕ → Judge → Policy
+permits name judge =
+    record { name = name; restrictive = false; selects = true; roles = Some (1 ∷ []); judge = Some judge }
 
 -- to authenticated using (exists (select 1 from members m where m.room_id = rooms.id))
 abbrev pub members_read_rooms : Policy
-members_read_rooms = record { name = codes "members read rooms"; restrictive = false; selects = true; roles = Some (1 ∷ []); judge = Some is_shared }
+members_read_rooms = permits (codes "members read rooms") is_shared
 
 -- to authenticated using ((select auth.uid()) = user_id)
 abbrev pub own_memberships : Policy
-own_memberships = record { name = codes "own memberships"; restrictive = false; selects = true; roles = Some (1 ∷ []); judge = Some own }
+own_memberships = permits (codes "own memberships") own
 
 abbrev pub room_rules : List TableRules
 room_rules =
@@ -40,13 +47,16 @@ room_rules_descend =
     ap (λ n. (nat_le n 1 && true) && ((nat_le (reach room_rules own) 0 && true) && true)) (reach_is_shared room_rules)
     ∙ ap (λ n. (true && true) && ((nat_le n 0 && true) && true)) (reach_own room_rules)
 
--- create table rooms (id uuid primary key, title text not null); create table members (room_id uuid, user_id uuid, primary key (room_id, user_id));
+-- create table rooms (id uuid primary key, title text not null);
+-- create table members (room_id uuid, user_id uuid, primary key (room_id, user_id));
 abbrev pub rooms_table : Table
 rooms_table =
     record {
       schema = codes "public";
       name = codes "rooms";
-      columns = record { name = codes "id"; kind = kind.Uuid; shown = codes "uuid" } ∷ record { name = codes "title"; kind = kind.Text; shown = codes "text" } ∷ [];
+      columns =
+          record { name = codes "id"; kind = kind.Uuid; shown = codes "uuid" }
+          ∷ record { name = codes "title"; kind = kind.Text; shown = codes "text" } ∷ [];
       key = 0 ∷ [];
     }
 
@@ -55,7 +65,9 @@ members_table =
     record {
       schema = codes "public";
       name = codes "members";
-      columns = record { name = codes "room_id"; kind = kind.Uuid; shown = codes "uuid" } ∷ record { name = codes "user_id"; kind = kind.Uuid; shown = codes "uuid" } ∷ [];
+      columns =
+          record { name = codes "room_id"; kind = kind.Uuid; shown = codes "uuid" }
+          ∷ record { name = codes "user_id"; kind = kind.Uuid; shown = codes "uuid" } ∷ [];
       key = 0 ∷ 1 ∷ [];
     }
 
@@ -144,13 +156,14 @@ remove_room =
     }
 
 abbrev pub join : List ℕ
-join = codes "{\"topic\":\"realtime:rooms\",\"event\":\"phx_join\",\"payload\":{\"config\":{\"presence\":{\"enabled\":false},\"postgres_changes\":[{\"event\":\"*\",\"table\":\"rooms\"}]}},\"ref\":\"1\"}"
+join = join_for (codes "realtime:rooms") (codes "{\"event\":\"*\",\"table\":\"rooms\"}")
 
 -- the user 161, the user 162, the service role and anon join in this order
 abbrev pub joined : List Input
 joined =
     Frame 3 join ∷ Frame 2 join ∷ Frame 1 join ∷ Frame 0 join
-    ∷ Opened 3 V1 (of_role (codes "anon")) ∷ Opened 2 V1 (of_role (codes "service_role")) ∷ Opened 1 V1 (user 162) ∷ Opened 0 V1 (user 161) ∷ []
+    ∷ Opened 3 V1 (of_role (codes "anon")) ∷ Opened 2 V1 (of_role (codes "service_role"))
+    ∷ Opened 1 V1 (user 162) ∷ Opened 0 V1 (user 161) ∷ []
 
 -- the room with its member 161
 abbrev pub made : List Change
@@ -167,4 +180,6 @@ gone = remove_room ∷ []
 abbrev pub MembersSeeRooms : Type 0
 MembersSeeRooms =
     audit_lines rooms settings (Poll gone ∷ Poll left ∷ Poll made ∷ joined) ≡
-    codes "8 1 1 delivered\n8 1 2 denied none permits\n8 1 3 delivered\n8 1 4 denied no policy\n9 1 1 denied none permits\n9 1 2 denied none permits\n9 1 3 delivered\n9 1 4 denied no policy\n10 0 1 delivered\n10 0 2 delivered\n10 0 3 delivered\n10 0 4 delivered\n"
+    codes "8 1 1 delivered\n8 1 2 denied none permits\n8 1 3 delivered\n8 1 4 denied no policy\n"
+    ++ codes "9 1 1 denied none permits\n9 1 2 denied none permits\n9 1 3 delivered\n9 1 4 denied no policy\n"
+    ++ codes "10 0 1 delivered\n10 0 2 delivered\n10 0 3 delivered\n10 0 4 delivered\n"

@@ -31,14 +31,19 @@ lists_in (Err r) = no_lists
 -- create table notes (id int4 primary key, body varchar, tags text[]);
 abbrev pub notes_table : Statement
 notes_table =
-    Table (in_public (codes "notes")) (item.Column (codes "id") (type_named (codes "integer")) (PrimaryKey ∷ []) ∷ item.Column (codes "body") (type_named (codes "varchar")) []
+    Table (in_public (codes "notes"))
+    (item.Column (codes "id") (type_named (codes "integer")) (PrimaryKey ∷ [])
+    ∷ item.Column (codes "body") (type_named (codes "varchar")) []
     ∷ item.Column (codes "tags") (Named (codes "text") true) [] ∷ [])
 
--- .. create role authenticated nologin; create role service_role bypassrls; grant select (id, body) on notes to authenticated, public;
+-- .. create role authenticated nologin; create role service_role bypassrls;
+-- grant select (id, body) on notes to authenticated, public;
 abbrev pub file : List Placed
 file =
-    at 0 notes_table ∷ at 16 (Role (codes "authenticated") (NoLogin ∷ [])) ∷ at 21 (Role (codes "service_role") (BypassRls ∷ []))
-    ∷ at 26 (Grant (codes "id" ∷ codes "body" ∷ []) (in_public (codes "notes") ∷ []) (codes "authenticated" ∷ codes "public" ∷ []))
+    at 0 notes_table ∷ at 16 (Role (codes "authenticated") (NoLogin ∷ []))
+    ∷ at 21 (Role (codes "service_role") (BypassRls ∷ []))
+    ∷ at 26 (Grant (codes "id" ∷ codes "body" ∷ []) (in_public (codes "notes") ∷ [])
+    (codes "authenticated" ∷ codes "public" ∷ []))
     ∷ at 40 (Secure (in_public (codes "notes"))) ∷ []
 
 abbrev pub lists : Lists
@@ -48,7 +53,8 @@ lists =
         schema = codes "public";
         name = codes "notes";
         columns =
-            record { name = codes "id"; kind = kind.Int4; shown = codes "int4" } ∷ record { name = codes "body"; kind = kind.Varchar; shown = codes "varchar" }
+            record { name = codes "id"; kind = kind.Int4; shown = codes "int4" }
+            ∷ record { name = codes "body"; kind = kind.Varchar; shown = codes "varchar" }
             ∷ record { name = codes "tags"; kind = kind.Opaque; shown = codes "_text" } ∷ [];
         key = 0 ∷ [];
       } ∷ [];
@@ -56,7 +62,8 @@ lists =
           ∷ record { role = record { name = codes "service_role"; bypass = true }; inherits = true } ∷ [];
       grants =
           record { table = 0; column = Some 0; role = Some 0 } ∷ record { table = 0; column = Some 0; role = None }
-          ∷ record { table = 0; column = Some 1; role = Some 0 } ∷ record { table = 0; column = Some 1; role = None } ∷ [];
+          ∷ record { table = 0; column = Some 1; role = Some 0 }
+          ∷ record { table = 0; column = Some 1; role = None } ∷ [];
       secured = 0 ∷ [];
       policies = [];
       memberships = [];
@@ -67,7 +74,10 @@ StatementsMeanLists = lists_of file ≡ Ok lists
 
 -- create table t (a jsonb primary key);
 abbrev pub OpaqueKeyIsRefused : Type 0
-OpaqueKeyIsRefused = lists_of (at 0 (Table (in_public (codes "t")) (item.Column (codes "a") (type_named (codes "jsonb")) (PrimaryKey ∷ []) ∷ [])) ∷ []) ≡ Err (0, OpaqueKey)
+OpaqueKeyIsRefused =
+    lists_of (at 0 (Table (in_public (codes "t"))
+    (item.Column (codes "a") (type_named (codes "jsonb")) (PrimaryKey ∷ []) ∷ [])) ∷ [])
+    ≡ Err (0, OpaqueKey)
 
 -- a second role of a name, and PUBLIC as a role's name
 abbrev pub SecondRoleIsRefused : Type 0
@@ -79,4 +89,6 @@ PublicIsNoRole = lists_of (at 0 (Role (codes "public") []) ∷ []) ≡ Err (0, T
 -- a grant on a column that the table hasn't
 abbrev pub UnknownColumnIsRefused : Type 0
 UnknownColumnIsRefused =
-    lists_of (at 0 notes_table ∷ at 16 (Grant (codes "title" ∷ []) (in_public (codes "notes") ∷ []) (codes "public" ∷ [])) ∷ []) ≡ Err (16, UnknownName)
+    lists_of (at 0 notes_table
+    ∷ at 16 (Grant (codes "title" ∷ []) (in_public (codes "notes") ∷ []) (codes "public" ∷ [])) ∷ [])
+    ≡ Err (16, UnknownName)

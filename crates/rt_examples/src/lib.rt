@@ -1,26 +1,38 @@
 //! Worked examples: what the definitions say of small runs, each computed by the prover.
 #![tactic(auto)]
 
-ghost use Rattle.rt_examples.specs.Statements.{StatementsMeanLists, OpaqueKeyIsRefused, SecondRoleIsRefused, PublicIsNoRole, UnknownColumnIsRefused};
+ghost use Rattle.rt_examples.specs.Statements.{StatementsMeanLists, OpaqueKeyIsRefused};
+ghost use Rattle.rt_examples.specs.Statements.{SecondRoleIsRefused, PublicIsNoRole};
+ghost use Rattle.rt_examples.specs.Statements.{UnknownColumnIsRefused};
 ghost use Rattle.rt_examples.specs.UsualSet.{UsualSetIsRead, RingIsRefused};
 ghost use Rattle.rt_examples.specs.UsualSet.{HiddenColumnIsRefused, OneHidesNothing};
 ghost use Rattle.rt_examples.specs.Memberships.{MembersSelect, BypassStays, QuotedIsAGroup};
 ghost use Rattle.rt_examples.specs.Memberships.{MemberRingIsRefused, OwnMemberIsRefused};
 ghost use Rattle.rt_examples.specs.Memberships.{PublicIsNoMember};
-ghost use Rattle.rt_examples.specs.Vectors.{TagIsKnown, TokenHasNoRole, TokenExpires, UnsignedIsRefused, TwoPartsAreNoToken};
+ghost use Rattle.rt_examples.specs.Vectors.{TagIsKnown, TokenHasNoRole, TokenExpires};
+ghost use Rattle.rt_examples.specs.Vectors.{UnsignedIsRefused, TwoPartsAreNoToken};
 ghost use Rattle.rt_examples.specs.Frames.{ChannelsAreLimited, FramesAreAnswered, JoinsAreRefused};
 ghost use Rattle.rt_examples.specs.Errors.{ErrorsAreSent, HiddenKeyIsAnError};
 ghost use Rattle.rt_examples.specs.Deletes.{DeletesShowTheKey};
-ghost use Rattle.rt_examples.specs.Restrictive.{RestrictiveRefuses};
+ghost use Rattle.rt_examples.specs.Restrictive.{RestrictiveRefuses, StrangersSeeNone};
 ghost use Rattle.rt_examples.specs.Rooms.{MembersSeeRooms};
+ghost use Rattle.rt_examples.specs.Audits.{FirstRunIsAudited, RenewalIsAudited};
+ghost use Rattle.rt_examples.specs.Audits.{FiltersAreAudited, DeletesAreAudited};
+ghost use Rattle.rt_examples.specs.Audits.{ErrorsAreAudited, HiddenKeyIsAudited};
+ghost use Rattle.rt_examples.specs.Audits.{IdentityIsAudited, KeptRowIsAudited};
+ghost use Rattle.rt_examples.specs.Crowd.{FormerIsNotCounted, OneMoreIsRefused};
+ghost use Rattle.rt_examples.specs.Gone.{RowIsGone, BothAreDelivered};
 ghost use Rattle.rt_examples.specs.Cuts.{CutIsGiven, CutIsShown};
 ghost use Rattle.rt_examples.specs.Expiry.{ChannelExpires};
 ghost use Rattle.rt_examples.specs.Filters.{BothFiltersPass, EmptyIsBad, NineAreTooMany};
-ghost use Rattle.rt_examples.specs.Identities.{IdentityIsBound, NoIdentityIsBound, IdentityIsShown, RowIsKept};
+ghost use Rattle.rt_examples.specs.Identities.{IdentityIsBound, NoIdentityIsBound};
+ghost use Rattle.rt_examples.specs.Identities.{IdentityIsShown, RowIsKept};
 ghost use Rattle.rt_examples.specs.Notes.{FirstRun};
 ghost use Rattle.rt_examples.specs.Owners.{OwnersAreJudged};
 ghost use Rattle.rt_examples.specs.Posts.{PostsAreHeard};
-ghost use Rattle.rt_examples.specs.Private.{MembersJoin, OpenJoinsAreRefused, ReadersDontSend, StrangersAreRefused};
+ghost use Rattle.rt_examples.specs.Private.{MembersJoin, OpenJoinsAreRefused};
+ghost use Rattle.rt_examples.specs.Private.{ReadersDontSend, StrangersAreRefused};
+ghost use Rattle.rt_examples.specs.Private.{MembersPost, ReadersDontPost};
 ghost use Rattle.rt_examples.specs.Renewal.{TokenIsSigned, RenewalIsFollowed};
 ghost use Rattle.rt_examples.specs.Tracks.{KeylessGets, LeaverGets, WatcherGets};
 
@@ -29,7 +41,8 @@ pub fn first_run()
     ensures { FirstRun }
 {}
 
-/// Tracks of a slot, a second track, and its departure, as both slots of the topic get them; and a track of a channel that asks for no key.
+/// Tracks of a slot, a second track, and its departure, as both slots of the topic get them; and a
+/// track of a channel that asks for no key.
 pub fn tracks()
     ensures leaver { LeaverGets }
     ensures watcher { WatcherGets }
@@ -63,9 +76,11 @@ pub fn deletes()
     ensures { DeletesShowTheKey }
 {}
 
-/// A restrictive policy that isn't true refuses a row that a permissive one shows.
+/// A restrictive policy that isn't true refuses a row that a permissive one shows; a permissive one
+/// that isn't true permits nothing.
 pub fn restrictive()
-    ensures { RestrictiveRefuses }
+    ensures refused { RestrictiveRefuses }
+    ensures strangers { StrangersSeeNone }
 {}
 
 /// A policy reads another table as the same caller sees it.
@@ -73,7 +88,8 @@ pub fn rooms()
     ensures { MembersSeeRooms }
 {}
 
-/// An update shows a column that only its identity gives, and is judged on the row as the table keeps it.
+/// An update shows a column that only its identity gives, and is judged on the row as the table
+/// keeps it.
 pub fn identities()
     ensures bound { IdentityIsBound }
     ensures bound_alone { NoIdentityIsBound }
@@ -92,6 +108,31 @@ pub fn frames()
     ensures answered { FramesAreAnswered }
     ensures refused { JoinsAreRefused }
     ensures limited { ChannelsAreLimited }
+{}
+
+/// A slot with a hundred channels: a join over one of them is accepted, and one of another topic
+/// is refused.
+pub fn crowd()
+    ensures former { FormerIsNotCounted }
+    ensures more { OneMoreIsRefused }
+{}
+
+/// A row that a poll inserts and deletes, with row security and without.
+pub fn gone()
+    ensures secured { RowIsGone }
+    ensures open_table { BothAreDelivered }
+{}
+
+/// The verdicts on the changes of other examples, as the audit prints them.
+pub fn audits()
+    ensures first_run { FirstRunIsAudited }
+    ensures renewal { RenewalIsAudited }
+    ensures filters { FiltersAreAudited }
+    ensures deletes { DeletesAreAudited }
+    ensures errors { ErrorsAreAudited }
+    ensures hidden_key { HiddenKeyIsAudited }
+    ensures identity { IdentityIsAudited }
+    ensures kept { KeptRowIsAudited }
 {}
 
 /// A binding with two filters, and lists of filters that are refused.
@@ -144,11 +185,14 @@ pub fn memberships()
     ensures quoted { QuotedIsAGroup }
 {}
 
-/// A join is permitted by a policy of `realtime.messages` once the caller is a member of the topic's room, and not before; a join that isn't private is
-/// refused; and a policy that permits to read alone lets its caller join and not send.
+/// A join is permitted by a policy of `realtime.messages` once the caller is a member of the
+/// topic's room, and not before; a join that isn't private is refused; and a policy that permits to
+/// read alone lets its caller join, and neither send nor post.
 pub fn private_channels()
     ensures strangers { StrangersAreRefused }
     ensures members { MembersJoin }
     ensures open_joins { OpenJoinsAreRefused }
     ensures readers { ReadersDontSend }
+    ensures posts { MembersPost }
+    ensures no_posts { ReadersDontPost }
 {}
