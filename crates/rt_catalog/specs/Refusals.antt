@@ -6,7 +6,7 @@ use Rattle.std.specs.Prelude.{Result, Ok, Err}
 use Rattle.std.specs.List.{list_any, list_all, flat_map, range_with_len}
 use Rattle.std.specs.Str.{bytes_eq}
 use Rattle.rt_value.specs.declared.value.Kind.{Kind}
-use Rattle.rt_value.specs.declared.value.Kind.TheVariants.{Opaque}
+use Rattle.rt_value.specs.declared.value.Kind.TheVariants.{Opaque, Json}
 use Rattle.rt_value.specs.Choice.{is_at}
 use Rattle.rt_policy.specs.declared.judge.Judge.{Judge}
 use Rattle.rt_policy.specs.declared.fault.ExprFault.{ExprFault}
@@ -77,8 +77,10 @@ abbrev pub comes_twice : List (List ℕ) → Bool
 comes_twice [] = false
 comes_twice (n ∷ ns) = list_any (bytes_eq n) ns || comes_twice ns
 
+-- values of the kind aren't judged
 abbrev pub is_opaque : Kind → Bool
 is_opaque Opaque = true
+is_opaque Json = true
 is_opaque _ = false
 
 abbrev pub column_names : List Item → List (List ℕ)

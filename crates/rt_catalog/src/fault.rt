@@ -12,7 +12,7 @@ pub enum Why {
     /// A table, column or role that no earlier statement made.
     #[error("unknown name")]
     UnknownName,
-    /// A key column whose kind is opaque.
+    /// A key column whose kind is opaque or `Json`.
     #[error("opaque key")]
     OpaqueKey,
     /// Kinds that don't go together in an expression.

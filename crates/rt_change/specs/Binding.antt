@@ -11,7 +11,9 @@ use Rattle.rt_value.specs.declared.edit.Edit.{Edit}
 use Rattle.rt_value.specs.declared.edit.Edit.TheVariants as edit
 use Rattle.rt_value.specs.Choice.{◌>>=◌, some_if}
 use Rattle.rt_value.specs.Reading.{int_in_text, uuid_in_text}
+use Rattle.rt_value.specs.Moments.{moment_in_text, moment_shown}
 use Rattle.rt_json.specs.declared.tree.Json.{Json, Null, Bool as Truth, Num, Text}
+use Rattle.rt_json.specs.Machine.{tree_of}
 use Rattle.rt_wal.specs.declared.records.Record.{Record}
 use Rattle.rt_wal.specs.declared.records.Field.{Field}
 use Rattle.rt_wal.specs.declared.records.Action.{Action}
@@ -46,7 +48,7 @@ begins_with_plus (b ∷ bytes) = b == 43
 abbrev pub number_of : ℕ → List ℕ → Option Value
 number_of bits text = some_if (not (begins_with_plus text)) text >>= λ digits. option_map value.Int (int_in_text bits digits)
 
--- The value of a tree in a kind. Null is of every kind, and an opaque kind takes every tree.
+-- The value of a tree in a kind. Null is of every kind, and an opaque kind and a JSON kind take every tree.
 abbrev pub value_of : Kind → Json → Option Value
 value_of k Null = Some value.Null
 value_of kind.Int2 (Num t) = number_of 16 t
@@ -56,8 +58,17 @@ value_of kind.Text (Text t) = Some (value.Text t)
 value_of kind.Varchar (Text t) = Some (value.Text t)
 value_of kind.Bool (Truth b) = Some (value.Bool b)
 value_of kind.Uuid (Text t) = option_map value.Uuid (uuid_in_text t)
+value_of kind.Timestamptz (Text t) = option_map value.Moment (moment_in_text t)
+value_of kind.Json tree = Some value.Opaque
 value_of kind.Opaque tree = Some value.Opaque
 value_of _ tree = None
+
+-- How a tree of a column is shown: a moment in UTC, a text of a JSON kind as the tree that it is a text of, where it is one, and every other
+-- tree as it came.
+abbrev pub face : Kind → Json → Json
+face kind.Timestamptz (Text t) = unwrap_or (option_map (λ m. Text (moment_shown m)) (moment_in_text t)) (Text t)
+face kind.Json (Text t) = unwrap_or (tree_of t) (Text t)
+face _ tree = tree
 
 -- the tree that fields give a column
 abbrev pub tree_for : List Field → Column → Option Json
@@ -80,8 +91,12 @@ cell_for fields col = tree_for fields col >>= value_of col.kind
 abbrev pub cells_for : Table → List Field → List (Option Value)
 cells_for t fields = map (cell_for fields) t.columns
 
-abbrev pub trees_for : Table → List Field → List (Option Json)
-trees_for t fields = map (tree_for fields) t.columns
+-- as it is shown
+abbrev pub face_for : List Field → Column → Option Json
+face_for fields col = option_map (face col.kind) (tree_for fields col)
+
+abbrev pub faces_for : Table → List Field → List (Option Json)
+faces_for t fields = map (face_for fields) t.columns
 
 -- a value that is given and isn't null
 abbrev pub given : Option Value → Option Value
@@ -193,8 +208,8 @@ change_with number t r verb new old =
       moment = r.moment;
       new = new;
       old = old;
-      new_trees = trees_for t (new_fields verb r);
-      old_trees = trees_for t (old_fields verb r);
+      new_trees = faces_for t (new_fields verb r);
+      old_trees = faces_for t (old_fields verb r);
       edit = edit_of verb t new old;
     }
 

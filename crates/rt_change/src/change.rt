@@ -31,9 +31,10 @@ pub struct Change {
     pub new: Cells,
     /// What identifies the row as it was before.
     pub old: Cells,
-    /// The values of `new` as the record shows them.
+    /// The values of `new` as a subscription is shown them: moments in UTC, a text of a JSON kind as
+    /// the tree that it is a text of, and every other value as the record has it.
     pub new_trees: List<Option<Json>>,
-    /// The values of `old` as the record shows them.
+    /// The values of `old` as a subscription is shown them.
     pub old_trees: List<Option<Json>>,
     /// What the change does to the rebuilt table.
     pub edit: Edit,

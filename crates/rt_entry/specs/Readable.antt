@@ -15,11 +15,13 @@ pub record IsReadable (levels : ℕ) (m : Message) : Type 0 where
   pub event : IsUtf8 m.event
   pub payload : FitsWithin levels m.payload
 
--- How deep a payload of the server nests. A frame nests in 64 levels, so its payload in 63 and the object that it tracks in 62. The members of that object
--- stand in a meta (62), which stands in a list (63) under `metas` (64) under its key (65) among the joins or the leaves of a difference (66). No other
--- payload nests deeper: that of a posted message nests in 61 levels, and what its channels are told in 62; a value of a line's record nests in 61 levels, so the record in 62, the change in 63, and its message's payload in 64.
+-- How deep a payload of the server nests. A tree that is shown of a JSON column nests in 64 levels, whether a line has it or a text of it is
+-- read, so the record in 65, the change in 66, and its message's payload in 67. A frame nests in 64 levels, so its payload in 63 and the object
+-- that it tracks in 62. The members of that object stand in a meta (62), which stands in a list (63) under `metas` (64) under its key (65) among
+-- the joins or the leaves of a difference (66). No other payload nests deeper: that of a posted message nests in 61 levels, and what its channels
+-- are told in 62.
 abbrev pub payload_levels : ℕ
-payload_levels = 66
+payload_levels = 67
 
 -- a poll's changes are each that of a line, and a post's messages those of a body of JSON
 abbrev pub IsOfLines : Catalog → Input → Type 0

@@ -1,5 +1,5 @@
 -- The change of the record.
-use Rattle.std.proofs.Common.{◌≡◌, ℕ, Bool, true, false, ◌&&◌, ◌||◌, not, cond, List, [], ◌∷◌, Option, Some, None, Result, Ok, ap, ◌∙◌}
+use Rattle.std.proofs.Common.{◌≡◌, ℕ, Bool, true, false, ◌&&◌, ◌||◌, not, cond, List, [], ◌∷◌, Option, Some, None, Result, Ok, refl, ap, ◌∙◌}
 use Rattle.std.specs.Prelude.{◌≢◌, codes, option_map}
 use Rattle.std.specs.Str.{bytes_eq}
 use Rattle.rt_value.specs.declared.value.Value.{Value}
@@ -16,13 +16,20 @@ use Rattle.rt_change.specs.declared.change.Bound.{Bound}
 use Rattle.rt_change.specs.declared.change.Bound.TheVariants as bound
 use Rattle.rt_change.specs.declared.fault.ChangeFault.{ChangeFault}
 use Rattle.rt_change.specs.declared.fault.ChangeFault.TheVariants.{KeyDiffers, ColumnUnknown, BadValue}
-use Rattle.rt_change.specs.Binding.{◌>>◌, or_fault, value_of, tree_for, column_named, fields_fit, cell_for, cells_for, given, no_name, name_at, keys_differ, key_given, change_with, bound_at, change_of}
+use Rattle.rt_change.specs.Binding.{◌>>◌, or_fault, value_of, tree_for, face, face_for, column_named, fields_fit, cell_for, cells_for, given, no_name, name_at, keys_differ, key_given, change_with, bound_at, change_of}
 use Rattle.rt_first.specs.First.{kind_of, column_of}
 use Rattle.rt_form.specs.declared.catalogue.Column.{Column}
+use Rattle.rt_form.specs.declared.catalogue.ColumnType.{ColumnType}
+use Rattle.rt_form.specs.declared.catalogue.ColumnType.TheVariants as type_
 use Rattle.rt_first.proofs.Bytes.{same_name, other_name}
 use Rattle.rt_first.proofs.Form.{key_column, catalog_with, whole_table}
 use Rattle.rt_first.proofs.Inserts.{fields_with, entry_with}
 use Rattle.rt_first.proofs.Values.{Stands}
+
+-- a tree of a whole number or a text is shown as it came
+plain_face : (t : ColumnType) (tree : Json) → face (kind_of t) tree ≡ tree
+plain_face type_.Int4 tree = refl
+plain_face type_.Text tree = refl
 
 module _ (name : List ℕ) (first second : Column) (is_key : Bool) (role : List ℕ) where
   pub table_found : table_named (catalog_with name first second is_key role) (codes "public") name ≡ Some 0
@@ -58,14 +65,21 @@ module _ (name : List ℕ) (first second : Column) (is_key : Bool) (differ : fir
     abbrev tree_in : Option Field → Option Json
     tree_in o = option_map (λ f. f.tree) o
 
-    pub first_tree : tree_for fields (column_of first) ≡ Some one
+    first_tree : tree_for fields (column_of first) ≡ Some one
     first_tree = ap (λ (b : Bool). tree_in (cond b (Some one_field) (cond (bytes_eq second.name first.name) (Some two_field) None))) (same_name first.name)
 
-    pub second_tree : tree_for fields (column_of second) ≡ Some two
+    second_tree : tree_for fields (column_of second) ≡ Some two
     second_tree =
         ap (λ (b : Bool). tree_in (cond b (Some one_field) (cond (bytes_eq second.name second.name) (Some two_field) None)))
         (other_name first.name second.name differ)
         ∙ ap (λ (b : Bool). tree_in (cond b (Some two_field) None)) (same_name second.name)
+
+    -- as it stands, which is as it is shown
+    pub first_face : face_for fields (column_of first) ≡ Some one
+    first_face = ap (option_map (face (kind_of first.column_type))) first_tree ∙ ap Some (plain_face first.column_type one)
+
+    pub second_face : face_for fields (column_of second) ≡ Some two
+    second_face = ap (option_map (face (kind_of second.column_type))) second_tree ∙ ap Some (plain_face second.column_type two)
 
     first_cell : cell_for fields (column_of first) ≡ Some of_one.value
     first_cell = ap (λ (o : Option Json). o >>= value_of (kind_of first.column_type)) first_tree ∙ of_one.is

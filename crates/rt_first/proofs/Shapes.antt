@@ -11,12 +11,12 @@ use Rattle.rt_json.specs.Written.{written}
 use Rattle.rt_catalog.specs.declared.catalog.Catalog.{Catalog}
 use Rattle.rt_catalog.specs.declared.catalog.Column.{Column as CatalogColumn}
 use Rattle.rt_change.specs.declared.change.Change.{Change}
-use Rattle.rt_change.specs.Binding.{tree_for}
+use Rattle.rt_change.specs.Binding.{face_for}
 use Rattle.rt_change.specs.Shape.{error_list, field_limit, shape_of}
 use Rattle.rt_first.specs.First.{kind_of, column_of}
 use Rattle.rt_form.specs.Messages.{column_tree, inserted}
 use Rattle.rt_form.specs.declared.catalogue.Column.{Column}
-use Rattle.rt_first.proofs.Binds.{change_is, first_tree, second_tree}
+use Rattle.rt_first.proofs.Binds.{change_is, first_face, second_face}
 use Rattle.rt_first.proofs.Form.{catalog_with, table_with}
 use Rattle.rt_first.proofs.Inserts.{fields_with}
 use Rattle.rt_first.proofs.Values.{Stands}
@@ -49,7 +49,7 @@ module _ (name : List ℕ) (first second : Column) (is_key : Bool) (role : List 
   unfolding shape_of
   shape_is differ of_one of_two most few =
       let large = nat_lt most size in
-      let there = tree_for (fields_with first.name second.name one two) (column_of second) in
-      ap (λ (a : Option Json). shaped large a there) (first_tree name first second is_key differ one two of_one of_two)
-      ∙ ap (shaped large (Some one)) (second_tree name first second is_key differ one two of_one of_two)
+      let there = face_for (fields_with first.name second.name one two) (column_of second) in
+      ap (λ (a : Option Json). shaped large a there) (first_face name first second is_key differ one two of_one of_two)
+      ∙ ap (shaped large (Some one)) (second_face name first second is_key differ one two of_one of_two)
       ∙ ap (λ (b : Bool). shaped b (Some one) (Some two)) few

@@ -54,7 +54,7 @@ use Rattle.rt_laws.proofs.Shaping.{ChangeFits, shape_fits}
 use Rattle.rt_laws.proofs.Accepting.{Told, NowFits, join_told, renewal_told}
 
 abbrev pub PartFits : Part → Type 0
-PartFits (Tells slot m) = IsReadable 66 m
+PartFits (Tells slot m) = IsReadable 67 m
 PartFits (Joins ch) = ChannelFits ch
 PartFits (Renews n x) = StandingFits x
 PartFits (Tracks t) = TrackFits t
@@ -93,7 +93,7 @@ by_case : (t : Bool) (x y : List Part) → (t ≡ true → AllOf PartFits x) →
 by_case true x y f g = f refl
 by_case false x y f g = g
 
-told_if : (t : Bool) (slot : ℕ) (m : Message) → IsReadable 66 m → AllOf PartFits (tell_if t slot m)
+told_if : (t : Bool) (slot : ℕ) (m : Message) → IsReadable 67 m → AllOf PartFits (tell_if t slot m)
 told_if true slot m is = (is, tt)
 told_if false slot m is = tt
 

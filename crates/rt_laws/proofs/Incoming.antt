@@ -106,7 +106,7 @@ tree_says n V1 tree h = object_says n tree h
 tree_says n V2 tree h =
     bind_of (AllByRecursion (FitsWithin (suc n))) (IsReadable (suc n)) (list_of tree) message_of_five (list_of_fits (suc n) tree h) (five_says n)
 
-tree_of_fits : (bytes : List ℕ) → Maybe (FitsWithin 64) (tree_of bytes)
+pub tree_of_fits : (bytes : List ℕ) → Maybe (FitsWithin 64) (tree_of bytes)
 tree_of_fits bytes = by (tree_of bytes) refl
   where
     by : (o : Option Json) → tree_of bytes ≡ o → Maybe (FitsWithin 64) o

@@ -106,26 +106,26 @@ reply_fits status n response u h =
     (text_member n (codes "status") status refl u, ((word (codes "response") refl, h), tt))
 
 module _ (m : Message) (is : IsReadable 63 m) (r : Json) (ref : IsRef r) where
-  pub ok_readable : (response : Json) → FitsWithin 65 response → IsReadable 66 (reply_ok r m response)
+  pub ok_readable : (response : Json) → FitsWithin 65 response → IsReadable 67 (reply_ok r m response)
   ok_readable response h = record {
     join_ref = ref;
     reference = is.reference;
     topic = is.topic;
     event = word (codes "phx_reply") refl;
-    payload = reply_fits (codes "ok") 65 response (word (codes "ok") refl) h;
+    payload = fits_up 1 66 (reply_payload (codes "ok") response) (reply_fits (codes "ok") 65 response (word (codes "ok") refl) h);
   }
 
-  pub error_readable : (reason : List ℕ) → IsUtf8 reason → IsReadable 66 (reply_error r m reason)
+  pub error_readable : (reason : List ℕ) → IsUtf8 reason → IsReadable 67 (reply_error r m reason)
   error_readable reason u = record {
     join_ref = ref;
     reference = is.reference;
     topic = is.topic;
     event = word (codes "phx_reply") refl;
-    payload = reply_fits (codes "error") 65 (reason_of reason) (word (codes "error") refl)
-        (object_fits 64 (field (codes "reason") (Text reason) ∷ []) (text_member 64 (codes "reason") reason refl u, tt));
+    payload = reply_fits (codes "error") 66 (reason_of reason) (word (codes "error") refl)
+        (object_fits 65 (field (codes "reason") (Text reason) ∷ []) (text_member 65 (codes "reason") reason refl u, tt));
   }
 
-  pub empty_readable : IsReadable 66 (reply_ok r m no_members)
+  pub empty_readable : IsReadable 67 (reply_ok r m no_members)
   empty_readable = ok_readable no_members (object_fits 64 [] tt)
 
 -- on a channel
@@ -178,25 +178,26 @@ posted_fits p is =
 
 module _ (ch : Channel) (f : ChannelFits ch) where
   on_channel : (event : List ℕ) (payload : Json) → list_all is_ascii_byte event ≡ true → FitsWithin 66 payload
-      → IsReadable 66 (channel_message ch event payload)
-  on_channel event payload a h = record { join_ref = f.join_ref; reference = tt; topic = f.topic; event = word event a; payload = h }
+      → IsReadable 67 (channel_message ch event payload)
+  on_channel event payload a h =
+      record { join_ref = f.join_ref; reference = tt; topic = f.topic; event = word event a; payload = fits_up 1 66 payload h }
 
-  pub close_readable : IsReadable 66 (close_message ch)
+  pub close_readable : IsReadable 67 (close_message ch)
   close_readable = record {
     join_ref = f.join_ref;
     reference = f.join_ref;
     topic = f.topic;
     event = word
         (codes "phx_close") refl;
-    payload = object_fits 65 [] tt;
+    payload = object_fits 66 [] tt;
   }
 
-  pub subscribed_readable : IsReadable 66 (subscribed_message ch)
+  pub subscribed_readable : IsReadable 67 (subscribed_message ch)
   subscribed_readable =
       on_channel (codes "system") _ refl (system_fits 65 (codes "Subscribed to PostgreSQL") (codes "ok") (codes "postgres_changes") (channel_name ch)
       (word (codes "Subscribed to PostgreSQL") refl) (word (codes "ok") refl) (word (codes "postgres_changes") refl) f.name)
 
-  pub failed_readable : (reason : List ℕ) → IsUtf8 reason → IsReadable 66 (failed_message ch reason)
+  pub failed_readable : (reason : List ℕ) → IsUtf8 reason → IsReadable 67 (failed_message ch reason)
   failed_readable reason u =
       on_channel (codes "system") _ refl (system_fits 65 reason (codes "error") (codes "system") (channel_name ch) u (word (codes "error") refl)
       (word (codes "system") refl) f.name)
@@ -211,7 +212,7 @@ module _ (ch : Channel) (f : ChannelFits ch) where
       object_fits 64 (field (codes "postgres_changes") (j.List (map binding_tree numbered)) ∷ [])
       ((word (codes "postgres_changes") refl, list_fits 63 (map binding_tree numbered) trees), tt)
 
-  pub broadcast_readable : (payload : Json) → FitsWithin 63 payload → IsReadable 66 (broadcast_message ch payload)
+  pub broadcast_readable : (payload : Json) → FitsWithin 63 payload → IsReadable 67 (broadcast_message ch payload)
   broadcast_readable payload h = on_channel (codes "broadcast") payload refl (fits_up 3 63 payload h)
 
   -- presence
@@ -248,12 +249,12 @@ module _ (ch : Channel) (f : ChannelFits ch) where
       object_fits 64 (map (metas_of held) (in_order order keys))
       (all_map_of (MemberFits 64) IsUtf8 (metas_of held) (in_order order keys) (λ key u. key_metas held key a u) ordered)
 
-  pub state_readable : (tracks : List Track) → AllOf TrackFits tracks → IsReadable 66 (presence_state ch tracks)
+  pub state_readable : (tracks : List Track) → AllOf TrackFits tracks → IsReadable 67 (presence_state ch tracks)
   state_readable tracks a =
       let tree = metas_tree (map shown_meta tracks) in
       on_channel (codes "presence_state") tree refl (fits_up 1 65 tree (metas_fit (map shown_meta tracks) (all_shown tracks a)))
 
-  pub diff_readable : (joins leaves : List Track) → AllOf TrackFits joins → AllOf TrackFits leaves → IsReadable 66 (presence_diff ch joins leaves)
+  pub diff_readable : (joins leaves : List Track) → AllOf TrackFits joins → AllOf TrackFits leaves → IsReadable 67 (presence_diff ch joins leaves)
   diff_readable joins leaves a b =
       let joined = map shown_meta joins in
       let left = map shown_meta leaves in
@@ -263,15 +264,15 @@ module _ (ch : Channel) (f : ChannelFits ch) where
 
 -- the changes of a channel
 
-pub change_readable : (to : ChannelView) (ids : List ℕ) (tree : Json) → IsRef to.join_ref → IsUtf8 to.topic → AllOf Small ids → FitsWithin 63 tree
-    → IsReadable 66 (change_message to ids tree)
+pub change_readable : (to : ChannelView) (ids : List ℕ) (tree : Json) → IsRef to.join_ref → IsUtf8 to.topic → AllOf Small ids → FitsWithin 66 tree
+    → IsReadable 67 (change_message to ids tree)
 change_readable to ids tree ref topic small h =
-    let numbers = all_map_of (FitsWithin 64) Small number_tree ids (λ n s. number_tree_fits 64 n s) small in
+    let numbers = all_map_of (FitsWithin 65) Small number_tree ids (λ n s. number_tree_fits 65 n s) small in
     record {
       join_ref = ref;
       reference = tt;
       topic = topic;
       event = word (codes "postgres_changes") refl;
-      payload = object_fits 65 (field (codes "ids") (j.List (map number_tree ids)) ∷ field (codes "data") tree ∷ [])
-          ((word (codes "ids") refl, list_fits 64 (map number_tree ids) numbers), ((word (codes "data") refl, fits_up 2 63 tree h), tt));
+      payload = object_fits 66 (field (codes "ids") (j.List (map number_tree ids)) ∷ field (codes "data") tree ∷ [])
+          ((word (codes "ids") refl, list_fits 65 (map number_tree ids) numbers), ((word (codes "data") refl, h), tt));
     }

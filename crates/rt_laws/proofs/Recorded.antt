@@ -1,10 +1,15 @@
 -- A change that is bound of a line's record has trees that fit.
-use Rattle.std.proofs.Common.{◌≡◌, ℕ, suc, Bool, true, false, not, ◌&&◌, List, [], ◌∷◌, length, Option, Some, None, Ok, Err, sym, subst, arith}
-use Rattle.std.specs.Prelude.{⊤, IsUtf8, codes, Result, All, find, option_map, is_some, if◌then◌else◌, MatchOption}
+use Rattle.std.proofs.Common.{◌≡◌, ℕ, suc, Bool, true, false, not, ◌&&◌, List, [], ◌∷◌, length, ℤ, Option, Some, None, Ok, Err, sym, subst, arith}
+use Rattle.std.specs.Prelude.{⊤, IsUtf8, codes, Result, All, find, option_map, unwrap_or, is_some, if◌then◌else◌, MatchOption}
 use Rattle.std.specs.List.{AllByRecursion}
 use Rattle.std.specs.Str.{bytes_eq}
 use Rattle.rt_value.specs.Choice.{some_if}
-use Rattle.rt_json.specs.declared.tree.Json.{Json, out-Json}
+use Rattle.rt_value.specs.declared.value.Kind.{Kind}
+use Rattle.rt_value.specs.declared.value.Kind.TheVariants as kind
+use Rattle.rt_value.specs.Moments.{moment_in_text, moment_shown}
+use Rattle.rt_value.proofs.ShownAscii.{moments_utf8}
+use Rattle.rt_json.specs.declared.tree.Json.{Json, Text, out-Json}
+use Rattle.rt_json.specs.Machine.{tree_of}
 use Rattle.rt_json.specs.declared.tree.Json.TheOpen.{Json-F}
 use Rattle.rt_json.specs.declared.tree.named.Member.{Member}
 use Rattle.rt_json.specs.Fits.{FitsWithin, FitsOver}
@@ -27,11 +32,11 @@ use Rattle.rt_change.specs.declared.change.Bound.TheVariants as bound
 use Rattle.rt_change.specs.declared.fault.ChangeFault.{ChangeFault}
 use Rattle.rt_change.specs.declared.fault.ChangeFault.TheVariants.{KeyDiffers}
 use Rattle.rt_change.specs.Binding as binding
-use Rattle.rt_change.specs.Binding.{IsOfLine, or_fault, tree_for, fields_fit, trees_for, cells_for, verb_of, keys_differ, key_given, new_fields, old_fields, used, change_with, bound_to, bound_at, change_of}
+use Rattle.rt_change.specs.Binding.{IsOfLine, or_fault, tree_for, face, face_for, faces_for, fields_fit, cells_for, verb_of, keys_differ, key_given, new_fields, old_fields, used, change_with, bound_to, bound_at, change_of}
 use Rattle.rt_value.proofs.Plain.{AllOf, all_append, all_map, Maybe, find_of}
-use Rattle.rt_laws.proofs.Fitting.{read_fits, member_fits_in}
+use Rattle.rt_laws.proofs.Fitting.{read_fits, member_fits_in, text_fits, fits_up}
 use Rattle.rt_laws.proofs.Moments.{moment_utf8}
-use Rattle.rt_laws.proofs.Incoming.{bind_of}
+use Rattle.rt_laws.proofs.Incoming.{bind_of, tree_of_fits}
 use Rattle.rt_laws.proofs.Shaping.{ChangeFits}
 
 -- the fields of a line
@@ -162,8 +167,31 @@ tree_fits fields col a = by (find (λ (f : Field). bytes_eq f.name col.name) fie
     by None h = tt
     by (Some f) h = h
 
-trees_fit : (t : Table) (fields : List Field) → AllOf FieldFits fields → AllOf (Maybe (FitsWithin 61)) (trees_for t fields)
-trees_fit t fields a = all_map (Maybe (FitsWithin 61)) (tree_for fields) t.columns (λ col. tree_fits fields col a)
+-- a tree as it is shown nests in 64 levels at most: that of a text has been read
+
+moment_shown_fits : (text : List ℕ) (o : Option ℤ) → FitsWithin 64 (Text text)
+    → FitsWithin 64 (unwrap_or (option_map (λ m. Text (moment_shown m)) o) (Text text))
+moment_shown_fits text None h = h
+moment_shown_fits text (Some m) h = text_fits 64 (moment_shown m) (moments_utf8 m)
+
+read_tree_fits : (text : List ℕ) (o : Option Json) → Maybe (FitsWithin 64) o → FitsWithin 64 (Text text) → FitsWithin 64 (unwrap_or o (Text text))
+read_tree_fits text None k h = h
+read_tree_fits text (Some tree) k h = k
+
+shown_fits : (k : Kind) (tree : Json) → FitsWithin 61 tree → FitsWithin 64 (face k tree)
+shown_fits kind.Timestamptz (Text text) h = moment_shown_fits text (moment_in_text text) (fits_up 3 61 (Text text) h)
+shown_fits kind.Json (Text text) h = read_tree_fits text (tree_of text) (tree_of_fits text) (fits_up 3 61 (Text text) h)
+shown_fits _ tree h = fits_up 3 61 tree h
+
+face_fits : (fields : List Field) (col : Column) → AllOf FieldFits fields → Maybe (FitsWithin 64) (face_for fields col)
+face_fits fields col a = by (tree_for fields col) (tree_fits fields col a)
+  where
+    by : (o : Option Json) → Maybe (FitsWithin 61) o → Maybe (FitsWithin 64) (option_map (face col.kind) o)
+    by None h = tt
+    by (Some tree) h = shown_fits col.kind tree h
+
+trees_fit : (t : Table) (fields : List Field) → AllOf FieldFits fields → AllOf (Maybe (FitsWithin 64)) (faces_for t fields)
+trees_fit t fields a = all_map (Maybe (FitsWithin 64)) (face_for fields) t.columns (λ col. face_fits fields col a)
 
 module _ (r : Record) (f : FieldsFit r) (moment : Maybe IsUtf8 r.moment) where
   new_fit : (v : Verb) → AllOf FieldFits (new_fields v r)

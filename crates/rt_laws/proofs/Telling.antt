@@ -126,7 +126,7 @@ none_fits = record { number = omega arith; ids = omega arith; members = tt; stan
 -- what is said
 
 abbrev SaidFits : Answer → Type 0
-SaidFits (a.Says m) = IsReadable 66 m
+SaidFits (a.Says m) = IsReadable 67 m
 SaidFits (a.Opened version) = ⊤
 SaidFits (a.Ended name) = ⊤
 
@@ -150,7 +150,7 @@ at_slot_fits slot g h = by (g.0 == slot)
     by true = h
     by false = tt
 
-said_is : (x : Answer) → SaidFits x → Maybe (IsReadable 66) (said_by x)
+said_is : (x : Answer) → SaidFits x → Maybe (IsReadable 67) (said_by x)
 said_is (a.Says m) h = h
 said_is (a.Opened version) h = tt
 said_is (a.Ended name) h = tt
@@ -194,22 +194,22 @@ module _ (c : Catalog) (s : Settings) (names : HasReadableNames c) where
 
   -- what a slot is told
   told_fits : (journal : List Input) (i : Input) (slot : ℕ) → length journal < 2 ^ 64 → AllOf InputFits journal → InputFits i
-      → AllOf (IsReadable 66) (filter_map said_by (told slot (answers c s journal i)))
+      → AllOf (IsReadable 67) (filter_map said_by (told slot (answers c s journal i)))
   unfolding told
   told_fits journal i slot short f h =
       let given = answers c s journal i in
-      all_filter_map SaidFits (IsReadable 66) said_by (told slot given) said_is
+      all_filter_map SaidFits (IsReadable 67) said_by (told slot given) said_is
       (all_filter_map AnswerFits SaidFits (at_slot slot) given (at_slot_fits slot) (answers_fit journal i short f h))
 
   pub said_fits : (ch : Channel) (journal : List Input) → length journal < 2 ^ 64 → AllOf InputFits journal
-      → AllByRecursion (IsReadable 66) (said_since c s ch journal)
+      → AllByRecursion (IsReadable 67) (said_since c s ch journal)
   said_fits ch [] short a = tt
   said_fits ch (i ∷ before) short a = by (nat_le ch.number (length before)) (said_fits ch before (omega arith) a.1)
     where
-      by : (b : Bool) → AllByRecursion (IsReadable 66) (said_since c s ch before)
-          → AllByRecursion (IsReadable 66) (elim b as (λ t. List Message)
+      by : (b : Bool) → AllByRecursion (IsReadable 67) (said_since c s ch before)
+          → AllByRecursion (IsReadable 67) (elim b as (λ t. List Message)
           [ true ↦ said_since c s ch before ++ filter_map said_by (told ch.slot (answers c s before i)) | false ↦ [] ])
       by true more =
-          all_append (IsReadable 66) (said_since c s ch before) (filter_map said_by (told ch.slot (answers c s before i))) more
+          all_append (IsReadable 67) (said_since c s ch before) (filter_map said_by (told ch.slot (answers c s before i))) more
           (told_fits before i ch.slot (omega arith) a.1 a.0)
       by false more = tt

@@ -44,13 +44,13 @@ pub fn given_clients_agree()
 {}
 
 /// Where the catalogue's names are UTF-8, the journal is shorter than 2^64 and its changes are those of lines, every message that its inputs answer can be
-/// read: its texts are UTF-8, its numbers are numbers of the grammar, and its payload nests in at most 66 levels.
+/// read: its texts are UTF-8, its numbers are numbers of the grammar, and its payload nests in at most 67 levels.
 pub fn answers_are_readable()
     ensures { (c : CatalogData) (s : SettingsData) → AnswersAreReadable c s }
 {}
 
 /// With such names and changes and a limit on inputs below 2^32, a client holds what is present by the very bytes that its slot was given, with whatever
-/// reader of its own goes 67 levels deep.
+/// reader of its own goes 68 levels deep.
 pub fn readers_agree()
     ensures { (c : CatalogData) (s : SettingsData) → ReadersAgree c s }
 {}

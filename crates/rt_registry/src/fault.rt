@@ -21,7 +21,7 @@ pub enum BindingWhy {
     /// No such column, or one that the role may not SELECT.
     #[error("column")]
     Column,
-    /// The column's kind is opaque.
+    /// The column's kind is opaque or `Json`.
     #[error("opaque column")]
     Opaque,
     /// The filter has more than 100 values.
