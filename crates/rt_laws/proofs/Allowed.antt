@@ -30,11 +30,11 @@ use Rattle.rt_entry.specs.Answers.{Answers, answer_of, at_slot, told, spell, ans
 use Rattle.rt_entry.specs.Machine.{Cut, Placed, placed_from, placed, opening_after, cut_of, shown_by, shown_at, shown, start, run}
 use Rattle.rt_entry.specs.Access.{IsDueBy}
 use Rattle.rt_laws.specs.Changes.{IsOfInput}
-use Rattle.rt_laws.proofs.Shapes.{Fine, fine_for, Plain, Quiet, Shape, plain, joining, tracking}
-use Rattle.rt_laws.proofs.Marks.{answers_more, answers_none}
+use Rattle.rt_entry.proofs.Shapes.{Fine, fine_for, Plain, Quiet, Shape, plain, joining, tracking}
+use Rattle.rt_entry.proofs.Marks.{answers_more, answers_none}
 use Rattle.rt_laws.proofs.Good.{serves_all}
-use Rattle.rt_laws.proofs.Sound.{members_in}
-use Rattle.rt_laws.proofs.Journals.{shape_next, story_shaped}
+use Rattle.rt_entry.proofs.Sound.{members_in}
+use Rattle.rt_entry.proofs.Journals.{shape_next, story_shaped}
 use Rattle.rt_laws.proofs.Due.{message_said, changes_allowed}
 
 -- what is shown of an item is the item, or a terminator

@@ -23,13 +23,14 @@ use Rattle.rt_entry.specs.Messages.{change_message}
 use Rattle.rt_entry.specs.Doings.{story, doings, subscriptions_of, subscriptions, view_of, gets, change_parts, change_parts_to, change_parts_to_all, poll_parts}
 use Rattle.rt_entry.specs.Answers.{answer_of, answers_by, answers}
 use Rattle.rt_entry.specs.Audit.{Judged, judged_by, judged_change, judged_poll, judged_input}
-use Rattle.rt_laws.specs.Members.{members_of_journal}
-use Rattle.rt_laws.specs.Audited.{subscribed, judged_on, change_answers, IsTold, IsDecided, AuditDecides, PollsAreChanges, ToldIdsRise}
+use Rattle.rt_entry.specs.Members.{members_of_journal}
+use Rattle.rt_entry.specs.Ids.{subscribed, judged_on}
+use Rattle.rt_laws.specs.Audited.{change_answers, IsTold, IsDecided, AuditDecides, PollsAreChanges}
 use Rattle.rt_laws.proofs.Lists.{flat_among, filter_map_among}
-use Rattle.rt_laws.proofs.Shapes.{eqb_same}
-use Rattle.rt_laws.proofs.Journals.{story_shaped}
+use Rattle.rt_entry.proofs.Shapes.{eqb_same}
+use Rattle.rt_entry.proofs.Journals.{story_shaped}
 use Rattle.rt_laws.proofs.Due.{and_parts, gets_own}
-use Rattle.rt_laws.proofs.Ids.{id_of, rise_filter, same_id, ids_rise}
+use Rattle.rt_entry.proofs.Ids.{id_of, same_id, ids_rise}
 
 and_all : (a b d : Bool) → a ≡ true → b ≡ true → d ≡ true → (a && b && d) ≡ true
 and_all true true true e f g = refl
@@ -46,7 +47,7 @@ module _ (c : Catalog) (s : Settings) (before : List Input) (changes : List Chan
   members = members_of_journal c s before
 
   abbrev subs : List Subscription
-  subs = subscribed c s before changes
+  subs = subscribed c s before
 
   abbrev tables : List (List Row)
   tables = judged_on c s before changes
@@ -150,8 +151,3 @@ audit_decides c s before changes j h = decides c s before changes j h
 
 pub polls_are_changes : (c : Catalog) (s : Settings) → PollsAreChanges c s
 polls_are_changes c s before changes = by_change c s before changes
-
-pub told_ids_rise : (c : Catalog) (s : Settings) → ToldIdsRise c s
-told_ids_rise c s before changes ch to =
-    rise_filter (gets c s (judged_on c s before changes) ch to.channel) 1 (suc (now_of (story c s before)).ids) (subscribed c s before changes)
-    (ids_rise c s before)

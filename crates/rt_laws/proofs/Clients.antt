@@ -22,18 +22,18 @@ use Rattle.rt_entry.specs.Messages.{presence_state, shown_meta}
 use Rattle.rt_entry.specs.Doings.{opening_in, doings, story}
 use Rattle.rt_entry.specs.Answers.{answers_by}
 use Rattle.rt_entry.specs.Presence.{client_view, present_on}
-use Rattle.rt_laws.specs.After.{tracks_after, after, done_by}
+use Rattle.rt_entry.specs.After.{tracks_after, after, done_by}
 use Rattle.rt_laws.specs.Departures.{heard}
 use Rattle.rt_laws.specs.Follows.{IsOutside}
-use Rattle.rt_laws.specs.Members.{members_of_journal}
-use Rattle.rt_laws.proofs.Shapes.{AreApart}
-use Rattle.rt_laws.proofs.Sound.{members_in, members_apart}
-use Rattle.rt_laws.proofs.Unique.{RisingMembers, members_rising}
-use Rattle.rt_laws.proofs.Tracked.{Apart, is_present}
-use Rattle.rt_laws.proofs.Journals.{story_shaped, story_grows}
+use Rattle.rt_entry.specs.Members.{members_of_journal}
+use Rattle.rt_entry.proofs.Shapes.{AreApart}
+use Rattle.rt_entry.proofs.Sound.{members_in, members_apart}
+use Rattle.rt_entry.proofs.Unique.{RisingMembers, members_rising}
+use Rattle.rt_entry.proofs.Tracked.{Apart, is_present}
+use Rattle.rt_entry.proofs.Journals.{story_shaped, story_grows, story_length}
 use Rattle.rt_laws.specs.Follows.{IsNoStop}
-use Rattle.rt_laws.proofs.Shapes.{Below}
-use Rattle.rt_laws.proofs.Sound.{held_below}
+use Rattle.rt_entry.proofs.Shapes.{Below}
+use Rattle.rt_entry.proofs.Sound.{held_below}
 use Rattle.rt_laws.proofs.Follows.{outside_turn}
 use Rattle.rt_laws.proofs.Frames.{Holds, holds_by, holds_frame}
 
@@ -65,11 +65,6 @@ module _ (now : Now) (h : Member) (in_members : Among now.members h) (rises : Ri
     input_holds tables Stop k = absurd k
 
 module _ (c : Catalog) (s : Settings) where
-  pub story_length : (journal : List Input) → length (story c s journal) ≡ length journal
-  unfolding story
-  story_length [] = refl
-  story_length (i ∷ before) = ap suc (story_length before)
-
   pub tracks_next : (journal : List Input) (i : Input)
       → present_at (story c s (i ∷ journal)) ≡ tracks_after (present_at (story c s journal)) (done_by c s journal i)
   unfolding now_of after
@@ -89,7 +84,7 @@ module _ (c : Catalog) (s : Settings) where
       let sh = story_shaped c s journal in
       let now = now_of st in
       let g = is_present st sh in
-      let l = story_length journal in
+      let l = story_length c s journal in
       let small =
       all_weaker (λ (t : Track). t.reference < length st) (λ (t : Track). t.reference < 2 ^ 64) (present_at st) (λ t lt. omega arith) g.small in
       let few : length st < 2 ^ 64 = omega arith in

@@ -45,7 +45,7 @@ use Rattle.rt_entry.specs.Messages.{subscribed_message, presence_state, joined_r
 use Rattle.rt_entry.specs.Readable.{IsReadable}
 use Rattle.rt_entry.specs.Joining.{Checked, channel_of_join, renewal_of}
 use Rattle.rt_entry.specs.Doings.{tell, in_turn, opening_in, is_of_slot, is_on, channels_of, channel_on, track_of, watches, diff_to, diffs, leave_diffs, depart, end_of, end_if_open, close, fail, tell_if, open_parts, has_bindings, present_on, join_result_parts, others, renewal_parts, gets_broadcast, broadcast_part, broadcast_parts, track_by, track_parts, untrack_part, untrack_parts, is_shut, is_idle, has_run_out, tick_parts, departs_of, stop_parts, subscriptions_of, subscriptions, view_of, opening_of, join_over_former, join_parts, ask_parts, channel_parts, message_parts, frame_parts, gets, change_parts, change_parts_to, change_parts_to_all, poll_parts, doings, posting_parts, post_parts, may_post, permitted_parts, judged_parts, denied_ask}
-use Rattle.rt_laws.proofs.Shapes.{option_all, all_flat_of}
+use Rattle.rt_entry.proofs.Shapes.{option_all, all_flat_of}
 use Rattle.rt_laws.proofs.Fitting.{object_fits, member_fits_in}
 use Rattle.rt_laws.proofs.Texts.{word}
 use Rattle.rt_laws.proofs.Incoming.{unwrap_of, message_fits}

@@ -28,12 +28,12 @@ use Rattle.rt_entry.specs.Doings.{story, doings, subscriptions_of, subscriptions
 use Rattle.rt_entry.specs.Answers.{answer_of, answers_by, answers}
 use Rattle.rt_entry.specs.Access.{IsSentBy, IsDeliveredTo, IsDueBy}
 use Rattle.rt_laws.specs.Changes.{HasOneVerdict}
-use Rattle.rt_laws.proofs.Sound.{Shaped, members_in}
-use Rattle.rt_laws.proofs.Journals.{story_shaped}
-use Rattle.rt_laws.proofs.Unique.{same_member}
+use Rattle.rt_entry.proofs.Sound.{Shaped, members_in}
+use Rattle.rt_entry.proofs.Journals.{story_shaped}
+use Rattle.rt_entry.proofs.Unique.{same_member}
 use Rattle.rt_laws.proofs.Columns.{all_from, shape_shows}
 use Rattle.rt_laws.proofs.Sent.{sent_verdict, verdict_when_sent}
-use Rattle.rt_laws.proofs.Shapes.{same_number}
+use Rattle.rt_entry.proofs.Shapes.{same_number}
 
 pub and_parts : (a b d : Bool) → (a && b && d) ≡ true → (a ≡ true) × (b ≡ true) × (d ≡ true)
 and_parts true true true e = (refl, refl, refl)

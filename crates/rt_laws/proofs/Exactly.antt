@@ -1,7 +1,6 @@
--- The exact forms: what comes behind a lane's marks, the push that put a cut there, and who tells changes.
-use Rattle.std.proofs.Common.{◌≡◌, ◌⊎◌, ℕ, ◌≤◌, List, [], ◌∷◌, ◌++◌, map, refl, sym, ap, subst, ◌∙◌, append_assoc, append-nil, arith, inl, inr}
+-- The push that put a cut there, and who tells changes.
+use Rattle.std.proofs.Common.{◌≡◌, ◌⊎◌, ℕ, ◌≤◌, List, [], ◌∷◌, ◌++◌, refl, sym, ap, subst, ◌∙◌, append_assoc, append-nil, arith, inl, inr}
 use Rattle.std.specs.Prelude.{Contains, codes}
-use Rattle.std.proofs.lemmas.List.{map-append}
 use Rattle.rt_value.proofs.Among.{Among, from_contains, among_either}
 use Rattle.rt_catalog.specs.declared.catalog.Catalog.{Catalog}
 use Rattle.rt_entry.specs.declared.input.Input.{Input}
@@ -9,25 +8,17 @@ use Rattle.rt_entry.specs.declared.input.Settings.{Settings}
 use Rattle.rt_entry.specs.declared.input.Step.{Step}
 use Rattle.rt_entry.specs.declared.input.Step.TheVariants.{Push}
 use Rattle.rt_entry.specs.declared.answer.Answer.TheVariants as a
-use Rattle.rt_entry.specs.Answers.{answers, lane_marks, marks_of, entry_of}
+use Rattle.rt_entry.specs.Answers.{answers}
 use Rattle.rt_entry.specs.Doings.{story}
 use Rattle.rt_entry.specs.Headline.{IsOwnCut}
 use Rattle.rt_entry.specs.Machine.{World, Cut, start, run, step_of, outbox, messages_in}
-use Rattle.rt_laws.specs.Exact.{MarksGrow, EntriesGrow, OnlyPollsTellChanges, slot_after, IsPut, CutsArePut}
+use Rattle.rt_laws.specs.Exact.{OnlyPollsTellChanges, slot_after, IsPut, CutsArePut}
 use Rattle.rt_laws.proofs.Allowed.{polled}
-use Rattle.rt_laws.proofs.Journals.{shape_next, story_shaped}
-use Rattle.rt_laws.proofs.Marks.{lane_more}
+use Rattle.rt_entry.proofs.Journals.{shape_next, story_shaped}
 use Rattle.rt_laws.proofs.Untouched.{cuts_are_own}
 use Rattle.rt_laws.proofs.Within.{outboxes_within}
 
 module _ (c : Catalog) (s : Settings) where
-  pub marks_grow : MarksGrow c s
-  marks_grow before i lane = lane_more c s before i lane
-
-  pub entries_grow : EntriesGrow c s
-  entries_grow before i lane =
-      ap (map (entry_of c s)) (lane_more c s before i lane) ∙ map-append (entry_of c s) (lane_marks c s before lane) (marks_of c s lane before i)
-
   pub only_polls : OnlyPollsTellChanges c s
   only_polls before i slot m other there e =
       let shape = shape_next c s (story c s before) i (story_shaped c s before) in

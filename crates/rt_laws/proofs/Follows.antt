@@ -32,11 +32,11 @@ use Rattle.rt_entry.specs.Story.{Now, has, departed_in, is_last, standing_tracks
 use Rattle.rt_entry.specs.Doings.{in_turn, channels_of, opening_in, end_of, end_if_open, fail, open_parts, is_idle, has_run_out, tick_parts, subscriptions, view_of, opening_of, gets, change_parts, change_parts_to, change_parts_to_all, poll_parts, doings, posting_parts, post_parts, may_post, is_on, broadcast_part}
 use Rattle.rt_entry.specs.Messages.{shown_meta}
 use Rattle.rt_entry.specs.Presence.{client_view}
-use Rattle.rt_laws.specs.After.{tracks_after}
+use Rattle.rt_entry.specs.After.{tracks_after}
 use Rattle.rt_laws.specs.Follows.{IsOutside}
-use Rattle.rt_laws.proofs.Shapes.{AreApart}
-use Rattle.rt_laws.proofs.Unique.{RisingMembers}
-use Rattle.rt_laws.proofs.Tracked.{Apart}
+use Rattle.rt_entry.proofs.Shapes.{AreApart}
+use Rattle.rt_entry.proofs.Unique.{RisingMembers}
+use Rattle.rt_entry.proofs.Tracked.{Apart}
 use Rattle.rt_laws.proofs.Hears.{hears}
 use Rattle.rt_laws.proofs.Turns.{IsMute, Turns, turns_then, turns_mute, turns_each, turns_fail, turns_end, shown_still}
 

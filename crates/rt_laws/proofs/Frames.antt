@@ -31,13 +31,13 @@ use Rattle.rt_entry.specs.Messages.{presence_state, presence_diff, subscribed_me
 use Rattle.rt_entry.specs.Joining.{Checked, channel_of_join, renewal_of}
 use Rattle.rt_entry.specs.Doings.{tell, in_turn, watches, is_of_slot, channels_of, end_of, is_on, channel_on, track_of, diffs, leave_diffs, close, fail, tell_if, has_bindings, present_on, accept_parts, join_result_parts, others, renewal_parts, gets_broadcast, broadcast_part, broadcast_parts, track_by, track_parts, untrack_part, is_shut, join_over_former, join_parts, ask_parts, channel_parts, message_parts, frame_parts, permitted_parts, judged_parts, denied_ask}
 use Rattle.rt_entry.specs.Presence.{after_message, client_view}
-use Rattle.rt_laws.specs.After.{tracks_in, tracks_after}
+use Rattle.rt_entry.specs.After.{tracks_in, tracks_after}
 use Rattle.rt_laws.specs.Departures.{leave_for}
 use Rattle.rt_laws.specs.Views.{leaves_in, Fit}
 use Rattle.rt_laws.proofs.Metas.{reads_difference}
-use Rattle.rt_laws.proofs.Shapes.{AreApart, Below, IsMade, room, join_made, same_number}
-use Rattle.rt_laws.proofs.Unique.{RisingMembers}
-use Rattle.rt_laws.proofs.Tracked.{Apart}
+use Rattle.rt_entry.proofs.Shapes.{AreApart, Below, IsMade, room, join_made, same_number}
+use Rattle.rt_entry.proofs.Unique.{RisingMembers}
+use Rattle.rt_entry.proofs.Tracked.{Apart}
 use Rattle.rt_laws.proofs.Hears.{hears, hears_append, hears_own, no_departures}
 use Rattle.rt_laws.proofs.Turns.{IsMute, turns_each, turns_close, turns_fail, mute_view, view_append, none_found, one_found, of_one, leave_view, on_turn, eqb_turn, no_track_parts, other_false, shown_still}
 use Rattle.rt_laws.proofs.Follows.{Turn, then_turn, mute_turn, end_turn, turn_holds, after_with}

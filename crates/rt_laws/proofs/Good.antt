@@ -15,7 +15,7 @@ use Rattle.rt_entry.specs.Headline.{IsPrefixOf, IsServed}
 use Rattle.rt_laws.proofs.Lists.{take_add}
 use Rattle.rt_laws.proofs.Given.{IsGiven, Front, front_of, numbered, numbered_drop, Numbered, give, cut_short, more_items, given_prefix, given_all}
 use Rattle.rt_laws.proofs.Stepping.{one_sent, one_worked, one_popped, Keeps, step_keeps, run_keeps}
-use Rattle.rt_laws.proofs.Marks.{lane_due, lane_more, lane_none, no_marks, items_more}
+use Rattle.rt_entry.proofs.Marks.{lane_due, lane_more, lane_none, no_marks, items_more}
 
 pub with_all : {A : Type 0} (P : ℕ → A → Type 0) (f : ℕ → A) (n : ℕ) (x : A) → P n x → ((m : ℕ) → P m (f m)) → (m : ℕ) → P m (with_at f n x m)
 with_all P f n x h all m = elim (eqb_tells m n) [

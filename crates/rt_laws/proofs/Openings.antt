@@ -20,14 +20,14 @@ use Rattle.rt_entry.specs.declared.answer.Answer.{Answer}
 use Rattle.rt_entry.specs.Story.{Story, Now, now_of, has, departed_in, heard_in, opened_after, opening_at, moment_at, every_slot, slot_count}
 use Rattle.rt_entry.specs.Doings.{in_turn, or_none, opening_in, channels_of, end_of, fail, is_idle, has_run_out, tick_parts, departs_of, stop_parts, opening_of, poll_parts, doings, story}
 use Rattle.rt_entry.specs.Answers.{told, all_answers}
-use Rattle.rt_laws.specs.After.{done_by}
+use Rattle.rt_entry.specs.After.{done_by}
 use Rattle.rt_laws.specs.Openings.{left_open, is_there, OpeningsAreWhole}
-use Rattle.rt_laws.proofs.Shapes.{AreApart, Below, or_left, same_number}
-use Rattle.rt_laws.proofs.Sound.{held_below, members_apart}
-use Rattle.rt_laws.proofs.Journals.{story_shaped}
-use Rattle.rt_laws.proofs.Opens.{end_has}
-use Rattle.rt_laws.proofs.Agree.{slots_open}
-use Rattle.rt_laws.proofs.Marks.{told_none, answers_none}
+use Rattle.rt_entry.proofs.Shapes.{AreApart, Below, or_left, same_number}
+use Rattle.rt_entry.proofs.Sound.{held_below, members_apart}
+use Rattle.rt_entry.proofs.Journals.{story_shaped}
+use Rattle.rt_entry.proofs.Opens.{end_has}
+use Rattle.rt_entry.proofs.Slots.{slots_open}
+use Rattle.rt_entry.proofs.Marks.{told_none, answers_none}
 use Rattle.rt_laws.proofs.Since.{told_by, told_parts, told_more}
 use Rattle.rt_laws.proofs.Turning.{Leads, Mild, left_append, leads_then, mild_leads, ends_leads, state_follows}
 use Rattle.rt_laws.proofs.Whole.{Remains, MaySay, Knows, Goes, more_gone, mild_turn, mild_fail, own_channels, may_say, end_mild, end_own, goes_mild, open_goes, end_if_goes, frame_goes, mild_post, mild_poll}

@@ -14,10 +14,10 @@ use Rattle.rt_entry.specs.declared.story.Part.{Part}
 use Rattle.rt_entry.specs.declared.story.Part.TheVariants.{Opens, Ends, Tells, Joins, Renews, Tracks, Untracks, Departs}
 use Rattle.rt_entry.specs.Story.{Now, now_of, joined, joined_by, renewed_by, first_or, members_at}
 use Rattle.rt_entry.specs.Doings.{story}
-use Rattle.rt_laws.specs.After.{joins_of, remains, with_standing, renewed, new_member, members_after, after, done_by}
-use Rattle.rt_laws.specs.Members.{members_of_journal}
+use Rattle.rt_entry.specs.After.{joins_of, remains, with_standing, renewed, new_member, members_after, after, done_by}
+use Rattle.rt_entry.specs.Members.{members_of_journal}
 use Rattle.rt_laws.specs.Private.{IsJudged, WasJudged, MembersAreJudged, tables_by}
-use Rattle.rt_laws.proofs.Journals.{story_grows}
+use Rattle.rt_entry.proofs.Journals.{story_grows}
 use Rattle.rt_laws.proofs.PrivateInputs.{numbered, joins_judged, renewals_judged}
 
 joined_part : (p : Part) (ch : Channel) → joined_by p ≡ Some ch → p ≡ Joins ch

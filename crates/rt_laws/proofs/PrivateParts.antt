@@ -39,7 +39,7 @@ use Rattle.rt_entry.specs.Joining.{Checked, channel_of_join, renewal_of}
 use Rattle.rt_entry.specs.Story.{Now, departed_in}
 use Rattle.rt_entry.specs.Doings.{tell, in_turn, opening_in, is_of_slot, is_on, channels_of, channel_on, track_of, watches, diff_to, diffs, leave_diffs, depart, end_of, end_if_open, close, fail, tell_if, open_parts, has_bindings, present_on, join_result_parts, others, renewal_parts, gets_broadcast, broadcast_part, broadcast_parts, track_by, untrack_part, untrack_parts, is_shut, is_idle, has_run_out, tick_parts, departs_of, stop_parts, subscriptions, view_of, opening_of, denied_ask, join_over_former, join_parts, ask_parts, permitted_parts, judged_parts, channel_parts, message_parts, frame_parts, posting_parts, may_post, post_parts, gets, change_parts, change_parts_to, change_parts_to_all, poll_parts, doings}
 use Rattle.rt_laws.specs.Private.{IsJudged, IsAdmitted}
-use Rattle.rt_laws.proofs.Shapes.{same_number, all_flat_of}
+use Rattle.rt_entry.proofs.Shapes.{same_number, all_flat_of}
 use Rattle.rt_laws.proofs.PrivateJudged.{IsGood, join_judged, renewal_judged}
 
 -- what is kept was there, and passed

@@ -15,10 +15,10 @@ use Rattle.rt_entry.specs.declared.story.Part.{Part}
 use Rattle.rt_entry.specs.declared.story.Part.TheVariants.{Opens, Ends}
 use Rattle.rt_entry.specs.Story.{Story, Now, now_of, heard_in, opened_after, opening_at, moment_at, is_stop, is_stopped, every_slot, slot_count, tables_left}
 use Rattle.rt_entry.specs.Doings.{in_turn, or_none, opening_in, end_if_open, open_parts, tick_parts, stop_parts, opening_of, frame_parts, poll_parts, doings, story}
-use Rattle.rt_laws.specs.After.{done_by}
+use Rattle.rt_entry.specs.After.{done_by}
 use Rattle.rt_laws.specs.Openings.{is_there, StoppedIsShut}
-use Rattle.rt_laws.proofs.Sound.{held_below, members_apart}
-use Rattle.rt_laws.proofs.Journals.{story_shaped}
+use Rattle.rt_entry.proofs.Sound.{held_below, members_apart}
+use Rattle.rt_entry.proofs.Journals.{story_shaped}
 use Rattle.rt_laws.proofs.Turning.{Leads, mild_leads, opens_leads, ends_leads, state_follows}
 use Rattle.rt_laws.proofs.Whole.{Remains, mild_post, mild_poll, open_other}
 use Rattle.rt_laws.proofs.Openings.{Holds, stops_end, opens_at, opens_many, there_heard, open_where}

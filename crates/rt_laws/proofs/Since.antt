@@ -29,11 +29,11 @@ use Rattle.rt_entry.specs.Doings.{story}
 use Rattle.rt_entry.specs.Machine.{is_message}
 use Rattle.rt_entry.specs.Answers.{Answers, answer_of, at_slot, told, spell, answers_by, answers, all_answers, due}
 use Rattle.rt_entry.specs.Presence.{said_to, said_by, said_since, told_since, as_items, end_count, last_items}
-use Rattle.rt_laws.specs.After.{done_by}
+use Rattle.rt_entry.specs.After.{done_by}
 use Rattle.rt_laws.specs.Departures.{heard}
-use Rattle.rt_laws.proofs.Marks.{told_append, answers_more}
-use Rattle.rt_laws.proofs.Opens.{Spares}
-use Rattle.rt_laws.proofs.Agree.{Either, either, open_slots, open_channel, none_first, joins_numbered, member_number}
+use Rattle.rt_entry.proofs.Marks.{told_append, answers_more}
+use Rattle.rt_entry.proofs.Opens.{Spares}
+use Rattle.rt_entry.proofs.Slots.{Either, either, open_slots, open_channel, none_first, joins_numbered, member_number}
 
 -- the version of the last opening
 abbrev pub version_after : Version → List Answer → Version

@@ -18,14 +18,13 @@ use Rattle.rt_entry.specs.Story.{Now, now_of, joined_by, is_last, standing_track
 use Rattle.rt_entry.specs.Doings.{story}
 use Rattle.rt_entry.specs.Answers.{answer_of, at_slot, told, answers_by, answers}
 use Rattle.rt_entry.specs.Presence.{said_by, said_since}
-use Rattle.rt_laws.specs.After.{joins_of, remains, renewed, new_member, tracks_in, outlasts, after, done_by}
+use Rattle.rt_entry.specs.After.{joins_of, remains, renewed, new_member, tracks_in, outlasts, after, done_by}
 use Rattle.rt_entry.specs.Readable.{payload_levels, IsReadable}
 use Rattle.rt_value.proofs.Among.{from_contains}
-use Rattle.rt_laws.proofs.Clients.{story_length}
 use Rattle.rt_value.proofs.Plain.{AllOf, all_among, all_append, all_map_of, all_filter, Maybe}
 use Rattle.rt_entry.specs.declared.story.Standing.{Standing}
-use Rattle.rt_laws.proofs.Journals.{line_of, shape_next, story_shaped, story_grows}
-use Rattle.rt_laws.proofs.Sound.{joins_well}
+use Rattle.rt_entry.proofs.Journals.{line_of, shape_next, story_shaped, story_grows, story_length}
+use Rattle.rt_entry.proofs.Sound.{joins_well}
 use Rattle.rt_laws.proofs.Outgoing.{StandingFits, ChannelFits, TrackFits}
 use Rattle.rt_laws.proofs.Shaping.{all_filter_map}
 use Rattle.rt_laws.proofs.Accepting.{NowFits}

@@ -23,13 +23,13 @@ use Rattle.rt_entry.specs.Story.{Now, has, departed_by, departed_in, tracked_by}
 use Rattle.rt_entry.specs.Messages.{presence_diff, close_message, failed_message, shown_meta}
 use Rattle.rt_entry.specs.Doings.{in_turn, channels_of, track_of, watches, diff_to, leave_diffs, depart, end_of, close, fail}
 use Rattle.rt_entry.specs.Presence.{client_view, after_message}
-use Rattle.rt_laws.specs.After.{tracks_in}
+use Rattle.rt_entry.specs.After.{tracks_in}
 use Rattle.rt_laws.specs.Departures.{leave_for}
 use Rattle.rt_laws.specs.Views.{leaves_in}
 use Rattle.rt_laws.proofs.Metas.{reads_difference}
-use Rattle.rt_laws.proofs.Shapes.{AreApart, same_number}
-use Rattle.rt_laws.proofs.Unique.{RisingMembers}
-use Rattle.rt_laws.proofs.Tracked.{Apart}
+use Rattle.rt_entry.proofs.Shapes.{AreApart, same_number}
+use Rattle.rt_entry.proofs.Unique.{RisingMembers}
+use Rattle.rt_entry.proofs.Tracked.{Apart}
 use Rattle.rt_laws.proofs.Hears.{hears, hears_append, hears_leave, none_leave}
 
 pub view_append : (held : List Held) (xs ys : List Message) → client_view held (xs ++ ys) ≡ client_view (client_view held xs) ys
@@ -93,24 +93,6 @@ mute_view ch held (Renews k x ∷ ps) a = mute_view ch held ps a.1
 mute_view ch held (Tracks t ∷ ps) a = absurd a.0
 mute_view ch held (Untracks k ∷ ps) a = absurd a.0
 mute_view ch held (Departs k ∷ ps) a = absurd a.0
-
--- who has departed, in another order
-
-or_turn : (x y z : Bool) → ((x || y) || z) ≡ (y || (x || z))
-or_turn true true z = refl
-or_turn true false z = refl
-or_turn false true z = refl
-or_turn false false z = refl
-
-pub has_turn : (n : ℕ) (xs ys zs : List ℕ) → has n ((xs ++ ys) ++ zs) ≡ has n (ys ++ (xs ++ zs))
-has_turn n xs ys zs =
-    let p : ℕ → Bool = λ m. m == n in
-    any_append p (xs ++ ys) zs ∙ ap (λ b. b || has n zs) (any_append p xs ys) ∙ or_turn (has n xs) (has n ys) (has n zs)
-    ∙ ap (λ b. has n ys || b) (sym (any_append p xs zs)) ∙ sym (any_append p ys (xs ++ zs))
-
-pub or_second : (x y : Bool) → (x || y) ≡ false → y ≡ false
-or_second true y e = absurd (cc)
-or_second false y e = e
 
 pub eqb_turn : (n m : ℕ) → (n == m) ≡ (m == n)
 eqb_turn n m = elim (eqb_tells n m) [

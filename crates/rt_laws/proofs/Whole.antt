@@ -36,8 +36,8 @@ use Rattle.rt_entry.specs.Messages.{subscribed_message, presence_state}
 use Rattle.rt_entry.specs.Joining.{Checked, channel_of_join, renewal_of}
 use Rattle.rt_entry.specs.Doings.{tell, in_turn, opening_in, is_of_slot, is_on, channels_of, channel_on, track_of, watches, diff_to, diffs, leave_diffs, depart, end_of, end_if_open, close, fail, tell_if, open_parts, has_bindings, present_on, join_result_parts, others, renewal_parts, gets_broadcast, broadcast_part, broadcast_parts, track_by, untrack_part, is_shut, subscriptions, view_of, join_over_former, join_parts, ask_parts, channel_parts, message_parts, frame_parts, gets, change_parts, change_parts_to, change_parts_to_all, posting_parts, post_parts, may_post, permitted_parts, judged_parts, denied_ask}
 use Rattle.rt_laws.specs.Openings.{is_there}
-use Rattle.rt_laws.proofs.Shapes.{all_flat_of, AreApart, Below, IsMade, option_all, join_made, same_number}
-use Rattle.rt_laws.proofs.Turns.{or_second}
+use Rattle.rt_entry.proofs.Shapes.{all_flat_of, AreApart, Below, IsMade, option_all, join_made, same_number}
+use Rattle.rt_entry.proofs.Opens.{or_second}
 use Rattle.rt_laws.proofs.Due.{and_parts}
 use Rattle.rt_laws.proofs.Turning.{Leads, Mild, leads_then, mild_leads, opens_leads, ends_leads}
 use Rattle.rt_laws.proofs.Untouched.{false_of}

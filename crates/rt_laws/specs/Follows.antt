@@ -8,9 +8,9 @@ use Rattle.rt_entry.specs.declared.story.Member.{Member}
 use Rattle.rt_entry.specs.Story.{has, departed_in}
 use Rattle.rt_entry.specs.Messages.{presence_state, shown_meta}
 use Rattle.rt_entry.specs.Presence.{client_view, present_on}
-use Rattle.rt_laws.specs.After.{done_by}
+use Rattle.rt_entry.specs.After.{done_by}
 use Rattle.rt_laws.specs.Departures.{heard}
-use Rattle.rt_laws.specs.Members.{members_of_journal}
+use Rattle.rt_entry.specs.Members.{members_of_journal}
 
 -- an opening, a client that is gone, a poll or a tick
 abbrev pub IsOutside : Input → Type 0

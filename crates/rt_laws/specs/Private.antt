@@ -27,8 +27,8 @@ use Rattle.rt_entry.specs.Joining.{denied}
 use Rattle.rt_entry.specs.Story.{Now, now_of, tables_left}
 use Rattle.rt_entry.specs.Doings.{story, may_post}
 use Rattle.rt_entry.specs.Answers.{answers}
-use Rattle.rt_laws.specs.After.{done_by}
-use Rattle.rt_laws.specs.Members.{members_of_journal}
+use Rattle.rt_entry.specs.After.{done_by}
+use Rattle.rt_entry.specs.Members.{members_of_journal}
 
 module _ (c : Catalog) where
   -- By the rows of the tables: the role is that of the claims, which may join the topic; and a broadcast and a track are denied exactly where their

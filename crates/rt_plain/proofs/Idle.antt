@@ -19,7 +19,7 @@ use Rattle.rt_laws.proofs.Lists.{flat_among}
 use Rattle.rt_laws.proofs.Given.{shown_uncut}
 use Rattle.rt_laws.proofs.Good.{IsGood, good_serves}
 use Rattle.rt_plain.proofs.Calm.{CalmWorld, by_test, pair_of, has_room}
-use Rattle.rt_laws.proofs.Shapes.{same_number}
+use Rattle.rt_entry.proofs.Shapes.{same_number}
 use Rattle.rt_laws.proofs.Untouched.{false_of}
 
 or_parts : (a b : Bool) → (a || b) ≡ false → (a ≡ false) × (b ≡ false)

@@ -20,7 +20,7 @@ use Rattle.rt_script.specs.declared.script.Line.{Line}
 use Rattle.rt_script.specs.declared.script.Script.{Script}
 use Rattle.rt_script.specs.Running.{take_of, line_of, plain_line, breaks_off, Drains, ends, Runs, at_end, steps, drains, IsRun}
 use Rattle.rt_laws.proofs.Good.{IsGood, with_all, step_good, start_good}
-use Rattle.rt_laws.proofs.Marks.{answers_none}
+use Rattle.rt_entry.proofs.Marks.{answers_none}
 use Rattle.rt_laws.proofs.Untouched.{at_itself}
 use Rattle.rt_plain.specs.Plain.{IsFed, IsInput, AreInputs, inputs_of, IsPlain, is_refused, HaveRoom, GivesAll}
 use Rattle.rt_plain.proofs.Calm.{Calm, CalmWorld, same_world, by_test, with_others, drained}
