@@ -174,6 +174,12 @@ module _ (c : Catalog) (s : Settings) where
   polled before (Tick n) slot m x sh e = absurd (fine_says _ _ _ slot m sh x e)
   polled before Stop slot m x sh e = absurd (fine_says _ _ _ slot m sh x e)
 
+  due_by_poll : (before : List Input) (i : Input) (slot : ℕ) (m : Message) → Among (answers c s before i) (slot, a.Says m) → (changes : List Change)
+      → i ≡ Poll changes → IsDueBy c s before changes slot m
+  due_by_poll before i slot m there changes e =
+      let P : Input → Type 0 = λ j. Among (answers c s before j) (slot, a.Says m) in
+      changes_allowed c s before changes slot m (to_contains (answers c s before (Poll changes)) (slot, a.Says m) (subst P e there))
+
   -- an answer is one input's
   record OfInput (journal : List Input) (g : ℕ × Answer) : Type 0 where
     later : List Input
@@ -218,5 +224,8 @@ module _ (c : Catalog) (s : Settings) where
         message = r.1;
         spelling = r.3;
         answered = to_contains (answers c s o.before o.input) (slot, a.Says r.1) o.answered;
-        changes = polled o.before o.input slot r.1 o.answered (shape_next c s (story c s o.before) o.input (story_shaped c s o.before));
+        polled = λ changes e. due_by_poll o.before o.input slot r.1 o.answered changes e;
+        other = λ ne e.
+            let p = polled o.before o.input slot r.1 o.answered (shape_next c s (story c s o.before) o.input (story_shaped c s o.before)) e in
+            ne p.0 p.1;
       }

@@ -15,8 +15,8 @@ pub fn verdicts_are_one()
     ensures { (c : CatalogData) (s : SettingsData) → VerdictsAreOne c s }
 {}
 
-/// After any list of steps, every message that a slot was given is the answer of an input of the journal, as it is spelled; and a message of changes
-/// is one of a poll, due by it and one of its changes.
+/// After any list of steps, every message that a slot was given is the answer of an input of the journal, as it is spelled. Of a poll it was due by it and
+/// one of its changes; of any other input it hasn't the event of changes.
 pub fn given_is_allowed()
     ensures { (c : CatalogData) (s : SettingsData) → GivenIsAllowed c s }
 {}

@@ -2,7 +2,14 @@ ghost use Rattle.std.specs.Prelude.{List};
 ghost use Rattle.rt_catalog.specs.declared.catalog.Catalog.{Catalog as CatalogData};
 ghost use Rattle.rt_entry.specs.declared.input.Settings.{Settings as SettingsData};
 ghost use Rattle.rt_entry.specs.declared.input.Input.{Input as InputData};
-ghost use Rattle.rt_entry.specs.Presence.{ClientsAgree, GivenClientsAgree, ReadersAgree, TakenClientsAgree};
+ghost use Rattle.rt_entry.specs.Presence.{
+  ClientsAgree,
+  GivenClientsAgree,
+  OpeningReadersAgree,
+  OpeningsAgree,
+  ReadersAgree,
+  TakenClientsAgree,
+};
 ghost use Rattle.rt_laws.specs.Departures.{DeparturesAreTold};
 ghost use Rattle.rt_laws.specs.Follows.{ClientsFollow};
 ghost use Rattle.rt_laws.specs.Told.{AnswersAreReadable};
@@ -36,11 +43,13 @@ pub fn taken_clients_agree()
     ensures { (c : CatalogData) (s : SettingsData) → TakenClientsAgree c s }
 {}
 
-/// The same of what a slot was given after any steps, with such a limit: where that is, of the slot's opening, exactly what is due by the inputs so far, it ends with all that
-/// the slot was told since the join of a member with presence enabled, spelled; and by these messages a client holds what is present on its topic, whatever
-/// it held before.
+/// The same of what a slot was given after any steps, with such a limit. Where that is, of one of the slot's openings and up to some place, exactly what
+/// is due of the opening that it has at a place of the journal, it ends with all that the slot was told since the join of a member with presence enabled,
+/// spelled; and by these messages a client holds what is present on its topic, whatever it held before. So it is of all that was given of the last
+/// opening.
 pub fn given_clients_agree()
-    ensures { (c : CatalogData) (s : SettingsData) → GivenClientsAgree c s }
+    ensures each { (c : CatalogData) (s : SettingsData) → OpeningsAgree c s }
+    ensures last { (c : CatalogData) (s : SettingsData) → GivenClientsAgree c s }
 {}
 
 /// Where the catalogue's names are UTF-8, the journal is shorter than 2^64 and its changes are those of lines, every message that its inputs answer can be
@@ -49,8 +58,9 @@ pub fn answers_are_readable()
     ensures { (c : CatalogData) (s : SettingsData) → AnswersAreReadable c s }
 {}
 
-/// With such names and changes and a limit on inputs below 2^32, a client holds what is present by the very bytes that its slot was given, with whatever
-/// reader of its own goes 67 levels deep.
+/// With such names and changes and a limit on inputs below 2^32, a client holds what is present by the very bytes that its slot was given of one of its
+/// openings, up to some place, with whatever reader of its own goes 67 levels deep; and so it is of all that was given of the last opening.
 pub fn readers_agree()
-    ensures { (c : CatalogData) (s : SettingsData) → ReadersAgree c s }
+    ensures each { (c : CatalogData) (s : SettingsData) → OpeningReadersAgree c s }
+    ensures last { (c : CatalogData) (s : SettingsData) → ReadersAgree c s }
 {}
