@@ -4,6 +4,7 @@ use Rattle.std.specs.Prelude.{⊤, ◌==◌, slice_get, codes, if◌then◌else�
 use Rattle.std.specs.List.{filter, flat_map, enumerate_from}
 use Rattle.std.proofs.lemmas.Bool.Decides.{eqb_tells}
 use Rattle.std.proofs.lemmas.List.Elements.{filter_map-append}
+use Rattle.std.proofs.lemmas.Bool.{or_left, or_right, or_parts}
 use Rattle.rt_value.proofs.Among.{Among, filter_among}
 use Rattle.rt_value.proofs.Plain.{AllOf, all_append, all_map, any_append}
 use Rattle.rt_phx.specs.declared.end.EndName.{EndName}
@@ -17,7 +18,7 @@ use Rattle.rt_entry.specs.declared.story.Part.TheVariants.{Opens, Ends, Tells, J
 use Rattle.rt_entry.specs.Story.{Now, has, departed_by, departed_in, heard_in, opened_after}
 use Rattle.rt_entry.specs.Doings.{in_turn, or_none, opening_in, is_of_slot, channels_of, track_of, watches, diff_to, diffs, leave_diffs, depart, end_of, end_if_open, close, fail, open_parts, is_idle, has_run_out, tick_parts, departs_of, stop_parts}
 use Rattle.rt_entry.specs.After.{joins_of, opens_after, after}
-use Rattle.rt_entry.proofs.Shapes.{eqb_same, or_left}
+use Rattle.rt_entry.proofs.Shapes.{eqb_same}
 use Rattle.rt_entry.proofs.Sound.{has_append}
 
 -- who has departed, in another order
@@ -33,10 +34,6 @@ has_turn n xs ys zs =
     let p : ℕ → Bool = λ m. m == n in
     any_append p (xs ++ ys) zs ∙ ap (λ b. b || has n zs) (any_append p xs ys) ∙ or_turn (has n xs) (has n ys) (has n zs)
     ∙ ap (λ b. has n ys || b) (sym (any_append p xs zs)) ∙ sym (any_append p ys (xs ++ zs))
-
-pub or_second : (x y : Bool) → (x || y) ≡ false → y ≡ false
-or_second true y e = absurd (cc)
-or_second false y e = e
 
 -- it neither opens nor ends the slot
 abbrev pub Spares : ℕ → Part → Type 0
@@ -142,10 +139,6 @@ still_turn act f gone (x ∷ xs) =
     all_append Still (act gone x) (in_turn act (departed_in (act gone x) ++ gone) xs) (f gone x)
     (still_turn act f (departed_in (act gone x) ++ gone) xs)
 
-or_right : (x y : Bool) → y ≡ true → (x || y) ≡ true
-or_right true y e = refl
-or_right false y e = e
-
 module _ (now : Now) where
   pub still_diffs : (gone topic : List ℕ) (joins leaves : List Track) → AllOf Still (diffs now gone topic joins leaves)
   still_diffs gone topic joins leaves = all_map Still (diff_to joins leaves) (filter (watches gone topic) now.members) (λ h. tt)
@@ -204,8 +197,8 @@ module _ (now : Now) where
       let dq = departed_in qs in
       let ds : departed_in (ps ++ qs) ≡ dp ++ dq = filter_map-append departed_by ps qs in
       let stays_on : has n (dq ++ (dp ++ gone)) ≡ false = sym (ap (λ (xs : List ℕ). has n (xs ++ gone)) ds ∙ has_turn n dp dq gone) ∙ stays in
-      let before : has n (dp ++ gone) ≡ false = or_second (has n dq) (has n (dp ++ gone))
-      (sym (any_append (λ j. j == n) dq (dp ++ gone)) ∙ stays_on) in
+      let before : has n (dp ++ gone) ≡ false = (or_parts (has n dq) (has n (dp ++ gone))
+      (sym (any_append (λ j. j == n) dq (dp ++ gone)) ∙ stays_on)).1 in
       all_append (Spares h.channel.slot) ps qs (a h here before) (b h here stays_on)
 
   keeps_each : {A : Type 0} (act : List ℕ → A → List Part) → ((gone : List ℕ) (x : A) → Keeps (act gone x) gone) → (gone : List ℕ) (xs : List A)

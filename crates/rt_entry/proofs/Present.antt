@@ -2,6 +2,7 @@
 use Rattle.std.proofs.Common.{◌≡◌, ℕ, suc, ◌<◌, Bool, true, false, ◌||◌, List, [], ◌∷◌, length, refl, ap, subst, inl, inr}
 use Rattle.std.specs.Prelude.{◌==◌, Contains}
 use Rattle.std.specs.List.{list_any}
+use Rattle.std.proofs.lemmas.Bool.{eqb-true}
 use Rattle.rt_value.proofs.Among.{Among, from_contains, to_contains, among_filter, map_among}
 use Rattle.rt_value.proofs.Plain.{all_among}
 use Rattle.rt_catalog.specs.declared.catalog.Catalog.{Catalog}
@@ -16,16 +17,7 @@ use Rattle.rt_entry.specs.Tracks.{tracks_of_journal, IsMembers}
 use Rattle.rt_entry.proofs.Sound.{members_in}
 use Rattle.rt_entry.proofs.Tracked.{is_present}
 use Rattle.rt_entry.proofs.Journals.{story_shaped, story_length}
-use Rattle.rt_entry.proofs.Shapes.{same_number}
-
-found_or : {A : Type 0} (p : A → Bool) (x : A) (xs : List A) (b : Bool) → p x ≡ b → (list_any p xs ≡ true → (y : A) × Among xs y × (p y ≡ true))
-    → (b || list_any p xs) ≡ true → (y : A) × Among (x ∷ xs) y × (p y ≡ true)
-found_or p x xs true e f h = (x, inl refl, e)
-found_or p x xs false e f h = let r = f h in (r.0, inr r.1, r.2)
-
-any_found : {A : Type 0} (p : A → Bool) (xs : List A) → list_any p xs ≡ true → (y : A) × Among xs y × (p y ≡ true)
-any_found p [] h = absurd (cc)
-any_found p (x ∷ xs) h = found_or p x xs (p x) refl (any_found p xs) h
+use Rattle.rt_catalog.proofs.Closed.{any_found}
 
 -- whose channel is a member
 holder : (st : Story) (t : Track) → Among (present_at st) t → (h : Member) × Among (members_in st) h × (h.channel.number ≡ t.channel)
@@ -34,7 +26,7 @@ holder st t a =
     let held : Track → Bool = λ u. list_any (λ (ch : Channel). ch.number == u.channel) (members_at st) in
     let f = among_filter held (standing_tracks (all_tracks st)) t a in
     let r = any_found (λ (ch : Channel). ch.number == t.channel) (members_at st) f.1 in
-    (member_in st r.0, map_among (member_in st) (members_at st) r.0 r.1, same_number r.0.number t.channel r.2)
+    (member_in st r.0, map_among (member_in st) (members_at st) r.0 r.1, eqb-true r.0.number t.channel r.2)
 
 module _ (c : Catalog) (s : Settings) where
   pub track_once : (journal : List Input) (t u : Track) → Contains (tracks_of_journal c s journal) t → Contains (tracks_of_journal c s journal) u

@@ -5,6 +5,7 @@ use Rattle.std.specs.List.{filter, flat_map, list_any, enumerate_from}
 use Rattle.std.specs.Str.{bytes_eq}
 use Rattle.std.proofs.lemmas.Bool.Decides.{eqb_tells}
 use Rattle.std.proofs.lemmas.Slice.Eq.{bytes_eq-Decides}
+use Rattle.std.proofs.lemmas.Bool.{eqb-true}
 use Rattle.rt_value.specs.declared.row.Row.{Row}
 use Rattle.rt_value.specs.declared.claims.Claims.{Claims}
 use Rattle.rt_value.proofs.Among.{Among, among_filter, filter_among}
@@ -41,7 +42,7 @@ use Rattle.rt_entry.specs.declared.story.Part.TheVariants.{Opens, Ends, Tells, J
 use Rattle.rt_entry.specs.declared.entry.ChannelView.{ChannelView}
 use Rattle.rt_entry.specs.Story.{Now, departed_in, has}
 use Rattle.rt_entry.specs.Messages.{subscribed_message, presence_state, joined_response}
-use Rattle.rt_entry.specs.Joining.{Checked, ◌>>◌, or_why, demand, told_by, registry_text, channel_limit, binding_of, key_of, join_ref_of, asked_claims, channel_of_join, renewal_of, standing_for, is_as_private, has_presence}
+use Rattle.rt_entry.specs.Joining.{Checked, ◌>>◌, or_why, demand, told_by, registry_text, channel_limit, binding_of, key_of, join_ref_of, asked_claims, channel_of_join, renewal_of, standing_for, is_as_private, has_presence, made_channel}
 use Rattle.rt_entry.specs.Doings.{tell, in_turn, opening_in, is_of_slot, is_on, channels_of, channel_on, track_of, watches, diff_to, diffs, leave_diffs, depart, end_of, end_if_open, close, fail, tell_if, open_parts, has_bindings, present_on, join_result_parts, others, renewal_parts, gets_broadcast, broadcast_part, broadcast_parts, track_by, untrack_part, untrack_parts, is_shut, is_idle, has_run_out, tick_parts, departs_of, stop_parts, subscriptions, view_of, opening_of, join_over_former, join_parts, ask_parts, channel_parts, message_parts, frame_parts, gets, change_parts, change_parts_to, change_parts_to_all, poll_parts, doings, posting_parts, post_parts, may_post, permitted_parts, judged_parts, denied_ask}
 
 -- only a poll says changes
@@ -107,13 +108,6 @@ pub data Shape (b : Bool) (n ids : ℕ) (members : List Member) (ps : List Part)
 
 pub eqb_same : (n : ℕ) → (n == n) ≡ true
 eqb_same n = elim (eqb_tells n n) [ inl t ↦ t.0 | inr t ↦ absurd (t.1 refl) ]
-
-pub same_number : (n m : ℕ) → (n == m) ≡ true → n ≡ m
-same_number n m e = elim (eqb_tells n m) [ inl t ↦ t.1 | inr t ↦ absurd (let k : true ≡ false = sym e ∙ t.0 in cc) ]
-
-pub or_left : (x y : Bool) → x ≡ true → (x || y) ≡ true
-or_left true y e = refl
-or_left false y e = absurd (cc)
 
 find_case : {A : Type 0} (p : A → Bool) (x : A) (xs : List A) (y : A) (b : Bool) → p x ≡ b → p y ≡ true → Among (x ∷ xs) y
     → (Among xs y → (f : A) × (find p xs ≡ Some f) × Among xs f × (p f ≡ true))
@@ -270,7 +264,7 @@ module _ (now : Now) (a : AllOf (Below now.number) now.members) (apart : AreApar
       let on : test h ≡ true = (bytes_eq-Decides h.channel.topic topic).1 t in
       let r = find_some test (channels_of now slot) h (filter_among (is_of_slot slot) now.members h here own) on in
       let f = among_filter (is_of_slot slot) now.members r.0 r.2 in
-      let slots : r.0.channel.slot ≡ h.channel.slot = same_number r.0.channel.slot slot f.1 ∙ sym e in
+      let slots : r.0.channel.slot ≡ h.channel.slot = eqb-true r.0.channel.slot slot f.1 ∙ sym e in
       let topics : r.0.channel.topic ≡ h.channel.topic = (bytes_eq-Decides r.0.channel.topic topic).0 r.3 ∙ sym t in
       r.1 ∙ ap (λ (m : Member). Some m) (apart r.0 h f.0 here slots topics)
 
@@ -313,19 +307,7 @@ module _ (now : Now) (a : AllOf (Below now.number) now.members) (apart : AreApar
           made_by now slot m.topic (standing_for c tables name claims) _ (λ standing.
           made_by now slot m.topic (demand (nat_lt others channel_limit) (codes "too many channels")) _ (λ _.
           made_by now slot m.topic (told_by registry_text (bindings_for c claims (map binding_of config.bindings)))
-          (λ bindings. Ok (record {
-            number = now.number;
-            slot = slot;
-            topic = m.topic;
-            join_ref = join_ref_of m;
-            standing = standing;
-            bindings = bindings;
-            first_id = now.ids + 1;
-            ack = config.ack;
-            own = config.own;
-            presence = has_presence c tables config name standing;
-            key = key_of now.number config.key;
-          }))
+          (λ bindings. Ok (made_channel c tables now slot m config standing bindings))
           (λ bindings. (refl, refl, refl, refl)))))))
 
       shape_join : (slot : ℕ) (o : Opening) (m : Message) → Shaped (join_parts c s now tables slot o m)

@@ -2,6 +2,7 @@
 use Rattle.std.proofs.Common.{◌≡◌, ◌⊎◌, Bool, true, false, not, List, [], ◌∷◌, ◌++◌, length, ℕ, ◌<◌, refl, sym, ap, subst, ◌∙◌, append-nil, inl, inr}
 use Rattle.std.specs.Prelude.{⊤, Contains}
 use Rattle.std.specs.List.{filter}
+use Rattle.std.proofs.lemmas.Bool.{not-true}
 use Rattle.rt_value.proofs.Among.{Among, from_contains, among_either, among_filter, among_map, map_among}
 use Rattle.rt_value.proofs.Plain.{AllOf, all_among}
 use Rattle.rt_catalog.specs.declared.catalog.Catalog.{Catalog}
@@ -19,10 +20,6 @@ use Rattle.rt_entry.proofs.Sound.{IsBelow, members_in, members_below, no_members
 use Rattle.rt_entry.proofs.Journals.{line_of, story_shaped, story_grows, story_length}
 use Rattle.rt_entry.proofs.Opens.{Spares, IsOpen, open_after}
 use Rattle.rt_entry.proofs.Keeping.{Keeping, keeping}
-
-not_false : (b : Bool) → not b ≡ true → b ≡ false
-not_false true e = absurd (cc)
-not_false false e = refl
 
 module _ (c : Catalog) (s : Settings) where
   members_next : (journal : List Input) (i : Input)
@@ -54,7 +51,7 @@ module _ (c : Catalog) (s : Settings) where
       let parts = done_by c s journal i in
       let P : List Channel → Type 0 = λ chs. Among chs ch in
       elim (among_either (filter (remains_by parts) old) (joins_of parts) ch (subst P (members_next journal i) here)) as (λ k. Either journal i ch) [
-        | inl a ↦ let f = among_filter (remains_by parts) old ch a in inl (f.0, not_false (has ch.number (departed_in parts)) f.1)
+        | inl a ↦ let f = among_filter (remains_by parts) old ch a in inl (f.0, not-true (has ch.number (departed_in parts)) f.1)
         | inr b ↦ inr b
       ]
 

@@ -16,6 +16,7 @@ use Rattle.rt_entry.specs.Story.{Line, Story, joined, joined_by, departed, depar
 use Rattle.rt_entry.specs.After.{joins_of, new_member, with_standing, tracks_in}
 use Rattle.rt_entry.proofs.Shapes.{Plain, Quiet, Below, IsNext, Shape, plain, joining, tracking, MakesRoom, AreApart, IsOfMember, fine_for}
 use Rattle.rt_entry.proofs.Grows.{Tagged, is_held, IsSound, remains_by, joined_grows, members_grow}
+use Rattle.rt_presence.proofs.Agree.{or_none}
 
 -- what plain parts leave
 
@@ -339,10 +340,6 @@ standing_below n ((k, Some t) ∷ xs) a =
 
 -- who holds a track one line later
 
-or_false : (a : Bool) → (a || false) ≡ a
-or_false true = refl
-or_false false = refl
-
 and_false : (a : Bool) → (a && false) ≡ false
 and_false true = refl
 and_false false = refl
@@ -388,10 +385,10 @@ held_grows l before t h lt =
     ap any (members_more l before h)
     ∙ any_append (λ (x : Channel). x.number == t.channel) kept (joins_of l.parts)
     ∙ ap (λ b. any kept || b) (none_of t.channel (length before) (joins_of l.parts) lt w.numbers)
-    ∙ or_false (any kept)
+    ∙ or_none (any kept)
     ∙ any_kept t.channel (departed_in l.parts) (members_at before)
 
-any_map : {A B : Type 0} (p : B → Bool) (f : A → B) (xs : List A) → list_any p (map f xs) ≡ list_any (λ x. p (f x)) xs
+pub any_map : {A B : Type 0} (p : B → Bool) (f : A → B) (xs : List A) → list_any p (map f xs) ≡ list_any (λ x. p (f x)) xs
 any_map p f [] = refl
 any_map p f (x ∷ xs) = ap (λ b. p (f x) || b) (any_map p f xs)
 

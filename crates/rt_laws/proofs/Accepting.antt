@@ -6,6 +6,7 @@ use Rattle.std.specs.Str.{bytes_eq}
 use Rattle.std.proofs.lemmas.Bool.Decides.{nat_tests}
 use Rattle.std.proofs.lemmas.Str.{IsUtf8-append}
 use Rattle.std.specs.List.{filter}
+use Rattle.std.proofs.lemmas.Bool.{and_parts}
 use Rattle.rt_value.specs.declared.claims.Claims.{Claims}
 use Rattle.rt_value.specs.declared.row.Row.{Row}
 use Rattle.rt_value.specs.Choice.{◌>>=◌}
@@ -44,10 +45,10 @@ use Rattle.rt_entry.specs.declared.story.Opening.{Opening}
 use Rattle.rt_entry.specs.declared.story.Standing.{Standing}
 use Rattle.rt_entry.specs.declared.story.Channel.{Channel}
 use Rattle.rt_entry.specs.declared.story.Member.{Member}
-use Rattle.rt_entry.specs.Joining.{Checked, ◌>>◌, or_why, demand, told_by, registry_text, channel_limit, binding_of, key_of, join_ref_of, asked_claims, unless, is_as_private, denied, standing_for, has_presence, channel_of_join, renewal_of}
+use Rattle.rt_entry.specs.Joining.{Checked, ◌>>◌, or_why, demand, told_by, registry_text, channel_limit, binding_of, key_of, join_ref_of, asked_claims, unless, is_as_private, denied, standing_for, has_presence, channel_of_join, renewal_of, made_channel}
 use Rattle.rt_entry.specs.Story.{Now}
 use Rattle.rt_entry.specs.Readable.{IsReadable}
-use Rattle.rt_laws.proofs.Texts.{word, decimal_utf8, behind, both}
+use Rattle.rt_laws.proofs.Texts.{word, decimal_utf8, behind}
 use Rattle.rt_laws.proofs.Incoming.{AskedFits, ConfigFits, config_fits}
 use Rattle.rt_laws.proofs.Shaping.{got}
 use Rattle.rt_laws.proofs.Outgoing.{Small, BindingFits, SubscribedFits, StandingFits, ChannelFits, TrackFits}
@@ -270,7 +271,7 @@ module _ (c : Catalog) (s : Settings) (names : HasReadableNames c) (now : Now) (
   unfolding channel_of_join
   join_told tables slot o others m is topic =
       let any : Claims → Type 0 = λ x. ⊤ in
-      let name = behind topic_prefix m.topic refl (both _ _ topic).0 is.topic in
+      let name = behind topic_prefix m.topic refl (and_parts _ _ topic).0 is.topic in
       let number = fits.number in
       let ids = fits.ids in
       told_bind ConfigFits ChannelFits (or_why (codes "bad config") (config_of m.payload)) _
@@ -284,19 +285,7 @@ module _ (c : Catalog) (s : Settings) (names : HasReadableNames c) (now : Now) (
       (standing_told c names tables (name_in m.topic) claims) (λ standing hs.
       told_bind (λ (x : Bool). ⊤) ChannelFits (demand (nat_lt others channel_limit) (codes "too many channels")) _
       (told_true (nat_lt others channel_limit) (codes "too many channels") (word (codes "too many channels") refl)) (λ _ _.
-      told_bind FewFit ChannelFits (told_by registry_text (bindings_for c claims (map binding_of config.bindings))) (λ bindings. Ok (record {
-        number = now.number;
-        slot = slot;
-        topic = m.topic;
-        join_ref = join_ref_of m;
-        standing = standing;
-        bindings = bindings;
-        first_id = now.ids + 1;
-        ack = config.ack;
-        own = config.own;
-        presence = has_presence c tables config (name_in m.topic) standing;
-        key = key_of now.number config.key;
-      }))
+      told_bind FewFit ChannelFits (told_by registry_text (bindings_for c claims (map binding_of config.bindings))) (λ bindings. Ok (made_channel c tables now slot m config standing bindings))
       (told_registry FewFit (bindings_for c claims (map binding_of config.bindings))
       (bindings_answered c claims (map binding_of config.bindings) (asked_all config.bindings hc.bindings))) (λ bindings hb.
       let few = hb.1 in

@@ -26,11 +26,12 @@ use Rattle.rt_entry.specs.Audit.{Judged, judged_by, judged_change, judged_poll, 
 use Rattle.rt_entry.specs.Members.{members_of_journal}
 use Rattle.rt_entry.specs.Ids.{subscribed, judged_on}
 use Rattle.rt_laws.specs.Audited.{change_answers, IsTold, IsDecided, AuditDecides, PollsAreChanges}
-use Rattle.rt_laws.proofs.Lists.{flat_among, filter_map_among}
+use Rattle.rt_laws.proofs.Lists.{flat_among}
 use Rattle.rt_entry.proofs.Shapes.{eqb_same}
 use Rattle.rt_entry.proofs.Journals.{story_shaped}
-use Rattle.rt_laws.proofs.Due.{and_parts, gets_own}
+use Rattle.rt_laws.proofs.Due.{three_parts, gets_own}
 use Rattle.rt_entry.proofs.Ids.{id_of, same_id, ids_rise}
+use Rattle.rt_catalog.proofs.Rows.{filter_map_among}
 
 and_all : (a b d : Bool) → a ≡ true → b ≡ true → d ≡ true → (a && b && d) ≡ true
 and_all true true true e f g = refl
@@ -114,7 +115,7 @@ module _ (c : Catalog) (s : Settings) (before : List Input) (changes : List Chan
       let k = among_filter (to_member ch g) subs x found.1 in
       let is : x ≡ sub = same_id 1 (suc (now_of (story c s before)).ids) subs x sub (ids_rise c s before) k.0 known found.2 in
       let P : Subscription → Type 0 = λ y. verdict_is_sent ch y ≡ true in
-      subst P is (and_parts (x.channel == g.channel.number) (is_of_table c ch.table x) (verdict_is_sent ch x) k.1).2
+      subst P is (three_parts (x.channel == g.channel.number) (is_of_table c ch.table x) (verdict_is_sent ch x) k.1).2
 
   decided : (n : ℕ × Change) (sub : Subscription) → Among (enumerate_from 0 changes) n → not (is_truncate n.1.verb) ≡ true → Among subs sub
       → is_of_table c n.1.table sub ≡ true → IsDecided c s before changes (judged_by c (length before) tables n sub)

@@ -22,6 +22,7 @@ use Rattle.rt_change.specs.Verdicts.{writes, lacks_key, hides_key}
 use Rattle.rt_change.specs.Shape.{error_list, is_large, shown_columns, is_kept, field_of, record_of, is_key_column, old_columns, head, column_tree, records, refused, whole, shape_of}
 use Rattle.rt_entry.specs.declared.input.Settings.{Settings}
 use Rattle.rt_entry.specs.Access.{IsShownColumn, ShowsOnly, IsRecordName}
+use Rattle.rt_filter.proofs.Options.{some_if_gives}
 
 -- a numbered element stands at its number
 numbered_at : {A : Type 0} (k : ℕ) (xs : List A) (n : ℕ × A) → Among (enumerate_from k xs) n → (i : ℕ) × (n.0 ≡ k + i) × (slice_get xs i ≡ Some n.1)
@@ -33,10 +34,6 @@ pub all_from : {A : Type 0} (B : A → Type 0) (xs : List A) → AllOf B xs → 
 all_from B [] a = All-nil B
 all_from B (x ∷ xs) a = All-cons B x xs a.0 (all_from B xs a.1)
 
-some_if_true : {A : Type 0} (b : Bool) (x y : A) → some_if b x ≡ Some y → (b ≡ true) × (x ≡ y)
-some_if_true {A} true x y e = (refl, ap (λ (o : Option A). unwrap_or o x) e)
-some_if_true false x y e = absurd (cc)
-
 module _ (c : Catalog) (s : Settings) (role max : ℕ) (ch : Change) where
   abbrev IsShown : ℕ × Column → Type 0
   IsShown n = (slice_get (table_at c ch.table).columns n.0 ≡ Some n.1) × (may_select c role ch.table n.0 ≡ true)
@@ -45,7 +42,7 @@ module _ (c : Catalog) (s : Settings) (role max : ℕ) (ch : Change) where
   shown_is n h =
       let r =
       among_filter_map (λ (m : ℕ × Column). some_if (may_select c role ch.table m.0) m) (enumerate_from 0 (table_at c ch.table).columns) n h in
-      let t = some_if_true (may_select c role ch.table r.0.0) r.0 n r.2 in
+      let t = some_if_gives (may_select c role ch.table r.0.0) r.0 n r.2 in
       let at = numbered_at 0 (table_at c ch.table).columns r.0 r.1 in
       let i : at.0 ≡ r.0.0 = let e = at.1 in omega arith in
       let here : IsShown r.0 = (ap (slice_get (table_at c ch.table).columns) (sym i) ∙ at.2, t.0) in
@@ -56,13 +53,13 @@ module _ (c : Catalog) (s : Settings) (role max : ℕ) (ch : Change) where
       let r =
       among_filter_map (λ (m : ℕ × Column). some_if (writes ch.verb || not (is_secured c ch.table) || is_key_column c role max ch m.0) m)
       (shown_columns c role max ch) n h in
-      let t = some_if_true (writes ch.verb || not (is_secured c ch.table) || is_key_column c role max ch r.0.0) r.0 n r.2 in
+      let t = some_if_gives (writes ch.verb || not (is_secured c ch.table) || is_key_column c role max ch r.0.0) r.0 n r.2 in
       subst IsShown t.1 (shown_is r.0 r.1)
 
   field_name : (n : ℕ × Column) (o : Option Json) (m : Member) → (o >>= λ tree. some_if (is_kept c role max ch tree) (field n.1.name tree)) ≡ Some m
       → n.1.name ≡ m.name
   field_name n None m e = absurd (cc)
-  field_name n (Some tree) m e = ap (λ (x : Member). x.name) (some_if_true (is_kept c role max ch tree) (field n.1.name tree) m e).1
+  field_name n (Some tree) m e = ap (λ (x : Member). x.name) (some_if_gives (is_kept c role max ch tree) (field n.1.name tree) m e).1
 
   shown_field : (columns : List (ℕ × Column)) (trees : List (Option Json)) → ((n : ℕ × Column) → Among columns n → IsShown n) → (m : Member)
       → Among (filter_map (field_of c role max ch trees) columns) m → IsShownColumn c s role ch.table m.name

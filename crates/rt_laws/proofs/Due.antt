@@ -2,6 +2,7 @@
 use Rattle.std.proofs.Common.{◌≡◌, ℕ, ◌<◌, Bool, true, false, ◌&&◌, cond, List, [], ◌∷◌, map, length, Option, Some, None, refl, sym, ap, subst, ◌∙◌, arith, inl, inr}
 use Rattle.std.specs.Prelude.{◌==◌, Contains}
 use Rattle.std.specs.List.{filter, filter_map, flat_map, enumerate_from}
+use Rattle.std.proofs.lemmas.Bool.{eqb-true}
 use Rattle.rt_value.specs.declared.row.Row.{Row}
 use Rattle.rt_value.specs.Tables.{rows_of_table}
 use Rattle.rt_value.proofs.Among.{Among, to_contains, from_contains, among_flat, among_map, among_filter, among_filter_map}
@@ -33,13 +34,12 @@ use Rattle.rt_entry.proofs.Journals.{story_shaped}
 use Rattle.rt_entry.proofs.Unique.{same_member}
 use Rattle.rt_laws.proofs.Columns.{all_from, shape_shows}
 use Rattle.rt_laws.proofs.Sent.{sent_verdict, verdict_when_sent}
-use Rattle.rt_entry.proofs.Shapes.{same_number}
 
-pub and_parts : (a b d : Bool) → (a && b && d) ≡ true → (a ≡ true) × (b ≡ true) × (d ≡ true)
-and_parts true true true e = (refl, refl, refl)
-and_parts true true false e = absurd (cc)
-and_parts true false d e = absurd (cc)
-and_parts false b d e = absurd (cc)
+pub three_parts : (a b d : Bool) → (a && b && d) ≡ true → (a ≡ true) × (b ≡ true) × (d ≡ true)
+three_parts true true true e = (refl, refl, refl)
+three_parts true true false e = absurd (cc)
+three_parts true false d e = absurd (cc)
+three_parts false b d e = absurd (cc)
 
 -- what an answer says, and to whom
 abbrev slot_said : Option (ℕ × Answer) → ℕ
@@ -65,14 +65,14 @@ module _ (c : Catalog) (s : Settings) (st : Story) (h : Shaped st) (tables : Lis
       → gets c s tables ch m.channel.number sub ≡ true → Gets ch m.channel.slot m.standing.role sub
   unfolding subscriptions
   gets_own ch m sub here known e =
-      let parts = and_parts (sub.channel == m.channel.number) (is_of_table c ch.table sub) (is_sent (verdict_of c (rows_of_table tables) sub ch)) e in
+      let parts = three_parts (sub.channel == m.channel.number) (is_of_table c ch.table sub) (is_sent (verdict_of c (rows_of_table tables) sub ch)) e in
       let found = among_flat subscriptions_of (members_in st) sub known in
       let g = found.0 in
       let made =
       among_map (subscription_of g.channel.number g.channel.slot g.standing.role g.standing.claims)
       (enumerate_from g.channel.first_id g.channel.bindings) sub found.2 in
       let number : g.channel.number ≡ m.channel.number =
-      ap (λ (x : Subscription). x.channel) made.2 ∙ same_number sub.channel m.channel.number parts.0 in
+      ap (λ (x : Subscription). x.channel) made.2 ∙ eqb-true sub.channel m.channel.number parts.0 in
       let same : g ≡ m = same_member st g m h found.1 here number in (
         known,
         ap (λ (x : Subscription). x.slot) (sym made.2) ∙ ap (λ (x : Member). x.channel.slot) same,
@@ -140,8 +140,8 @@ module _ (c : Catalog) (s : Settings) (st : Story) (h : Shaped st) (tables : Lis
       let own : AllOf (IsOf g.channel.number) fs = all_weaker (Among fs) (IsOf g.channel.number) fs
       (λ sub y.
       let f = among_filter (gets c s tables ch r.0.channel) subs sub y in
-      let mine = and_parts (sub.channel == r.0.channel) (is_of_table c ch.table sub) (is_sent (verdict_of c (rows_of_table tables) sub ch)) f.1 in
-      same_number sub.channel r.0.channel mine.0 ∙ sym number) (all_themselves fs) in
+      let mine = three_parts (sub.channel == r.0.channel) (is_of_table c ch.table sub) (is_sent (verdict_of c (rows_of_table tables) sub ch)) f.1 in
+      eqb-true sub.channel r.0.channel mine.0 ∙ sym number) (all_themselves fs) in
       told_by changes slot m ch r.0 g fs a k.1 k.2 all own p r.2 e
 
   change_tells : (changes : List Change) (slot : ℕ) (m : Message) (ch : Change) → Among changes ch → (p : Part) → answer_of p ≡ Some (slot, Says m)

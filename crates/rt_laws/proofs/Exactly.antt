@@ -25,7 +25,7 @@ module _ (c : Catalog) (s : Settings) where
       let p = polled c s before i slot m (from_contains (answers c s before i) (slot, a.Says m) there) shape e in
       other p.0 p.1
 
-  run_append : (xs ys : List Step) (w : World) → run c s (xs ++ ys) w ≡ run c s ys (run c s xs w)
+  pub run_append : (xs ys : List Step) (w : World) → run c s (xs ++ ys) w ≡ run c s ys (run c s xs w)
   unfolding run
   run_append [] ys w = refl
   run_append (x ∷ xs) ys w = run_append xs ys (step_of c s w x).1

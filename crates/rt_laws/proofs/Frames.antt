@@ -5,6 +5,7 @@ use Rattle.std.specs.List.{filter, cons_option}
 use Rattle.std.specs.Str.{bytes_eq}
 use Rattle.std.proofs.lemmas.List.Elements.{filter-append, filter_map-append}
 use Rattle.std.proofs.lemmas.Slice.Eq.{bytes_eq-Decides}
+use Rattle.std.proofs.lemmas.Bool.{eqb-true, ne_eqb}
 use Rattle.rt_value.proofs.Among.{Among}
 use Rattle.rt_value.proofs.Plain.{AllOf, Maybe, all_append, all_every, all_filter, all_map, all_weaker, all_among, all_themselves, any_append, filter_and, filter_alike, filter_all, find_of}
 use Rattle.rt_value.proofs.Moves.{Moves, then_to, moves_same}
@@ -35,12 +36,14 @@ use Rattle.rt_entry.specs.After.{tracks_in, tracks_after}
 use Rattle.rt_laws.specs.Departures.{leave_for}
 use Rattle.rt_laws.specs.Views.{leaves_in, Fit}
 use Rattle.rt_laws.proofs.Metas.{reads_difference}
-use Rattle.rt_entry.proofs.Shapes.{AreApart, Below, IsMade, room, join_made, same_number}
+use Rattle.rt_entry.proofs.Shapes.{AreApart, Below, IsMade, room, join_made}
 use Rattle.rt_entry.proofs.Unique.{RisingMembers}
 use Rattle.rt_entry.proofs.Tracked.{Apart}
 use Rattle.rt_laws.proofs.Hears.{hears, hears_append, hears_own, no_departures}
-use Rattle.rt_laws.proofs.Turns.{IsMute, turns_each, turns_close, turns_fail, mute_view, view_append, none_found, one_found, of_one, leave_view, on_turn, eqb_turn, no_track_parts, other_false, shown_still}
+use Rattle.rt_laws.proofs.Turns.{IsMute, turns_each, turns_close, turns_fail, mute_view, view_append, none_found, one_found, of_one, leave_view, on_turn, no_track_parts, shown_still}
 use Rattle.rt_laws.proofs.Follows.{Turn, then_turn, mute_turn, end_turn, turn_holds, after_with}
+use Rattle.rt_presence.proofs.Stands.{number_flip}
+use Rattle.rt_presence.proofs.Agree.{or_none}
 
 one_test : (k o : Bool) → (o && not (k || false)) ≡ ((not (k || false) && not false) && o)
 one_test true true = refl
@@ -134,7 +137,7 @@ module _ (now : Now) (h : Member) (in_members : Among now.members h) (rises : Ri
     place true true e f =
         let n = h.channel.number in
         let gone : has n (departed_in (closing slot topic)) ≡ true =
-        room now below apart slot topic h in_members (sym (same_number slot h.channel.slot e)) (sym ((bytes_eq-Decides topic h.channel.topic).0 f)) in
+        room now below apart slot topic h in_members (sym (eqb-true slot h.channel.slot e)) (sym ((bytes_eq-Decides topic h.channel.topic).0 f)) in
         let kept : has n (departed_in (closing slot topic)) ≡ false =
         or_first (has n (departed_in (closing slot topic))) (has n (departed_in rest))
         (sym (ap (has n) (filter_map-append departed_by (closing slot topic) rest)
@@ -241,22 +244,19 @@ module _ (now : Now) (h : Member) (in_members : Among now.members h) (rises : Ri
   olds_same : (t : Track) (o : Option Track) → track_of now t.channel ≡ o
       → AllOf (λ (u : Track). leaves_in (option_to_list o) u ≡ (t.channel == u.channel)) now.tracks
   olds_same t None e = all_weaker (λ (u : Track). (u.channel == t.channel) ≡ false) (λ (u : Track). false ≡ (t.channel == u.channel)) now.tracks
-      (λ u f. sym (eqb_turn t.channel u.channel ∙ f)) (none_found t.channel now.tracks e)
+      (λ u f. sym (number_flip t.channel u.channel ∙ f)) (none_found t.channel now.tracks e)
   olds_same t (Some o) e =
       let f = one_found t.channel now.tracks o e in
       all_weaker (Among now.tracks) (λ (u : Track). leaves_in (o ∷ []) u ≡ (t.channel == u.channel)) now.tracks
       (λ u i. ap (λ (z : Bool). z || false) (of_one now h in_members rises apart enabled chans refs small t.channel o u f.0 i
-      (same_number o.channel t.channel f.1)) ∙ or_none (t.channel == u.channel)) (all_themselves now.tracks) where
-        or_none : (z : Bool) → (z || false) ≡ z
-        or_none true = refl
-        or_none false = refl
+      (eqb-true o.channel t.channel f.1)) ∙ or_none (t.channel == u.channel)) (all_themselves now.tracks)
 
   olds_fresh : (t : Track) (n : ℕ) (o : Option Track) → track_of now n ≡ o → t.reference ≡ now.number → leaves_in (option_to_list o) t ≡ false
   olds_fresh t n None e r = refl
   olds_fresh t n (Some o) e r =
       let f = one_found n now.tracks o e in
       let lt : o.reference < now.number = all_among (λ (u : Track). u.reference < now.number) now.tracks o earlier f.0 in
-      ap (λ (z : Bool). z || false) (other_false o.reference t.reference (λ k. absurd (omega arith)))
+      ap (λ (z : Bool). z || false) (ne_eqb o.reference t.reference (λ k. absurd (omega arith)))
 
   olds_fit : (n : ℕ) (o : Option Track) → track_of now n ≡ o → AllOf (λ (u : Track). u.reference < 2 ^ 64) (option_to_list o)
   olds_fit n None e = tt
@@ -277,7 +277,7 @@ module _ (now : Now) (h : Member) (in_members : Among now.members h) (rises : Ri
       let moved =
       track_view t olds held (bytes_eq h.channel.topic g.channel.topic) refl refl (olds_same t (track_of now n) refl)
       (olds_fresh t n (track_of now n) refl refl) (olds_fit n (track_of now n) refl)
-      (λ u i e. ap (λ (tp : List ℕ). bytes_eq tp h.channel.topic) (sym (topics u g i here (same_number n u.channel e)))) mv in
+      (λ u i e. ap (λ (tp : List ℕ). bytes_eq tp h.channel.topic) (sym (topics u g i here (eqb-true n u.channel e)))) mv in
       let P : List Message → Type 0 = λ xs. Moves (client_view held xs)
       (map shown_meta (filter on (after_with now h in_members rises apart enabled chans refs small [] ((n, Some t) ∷ [])))) in
       let Q : List Held → Type 0 = λ x. Moves x (map shown_meta

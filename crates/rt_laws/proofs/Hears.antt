@@ -6,6 +6,7 @@ use Rattle.std.specs.Str.{bytes_eq}
 use Rattle.std.proofs.lemmas.Bool.Decides.{eqb_tells}
 use Rattle.std.proofs.lemmas.List.Elements.{filter_map-append}
 use Rattle.std.proofs.lemmas.Slice.Eq.{bytes_eq-Decides}
+use Rattle.std.proofs.lemmas.Bool.{eqb-true, and_from, and_parts}
 use Rattle.rt_value.proofs.Among.{Among, from_contains, among_filter, filter_among}
 use Rattle.rt_value.proofs.Plain.{AllOf, all_filter, all_weaker, all_themselves, and_swap, filter_and, filter_same}
 use Rattle.rt_phx.specs.declared.message.Message.{Message}
@@ -27,10 +28,11 @@ use Rattle.rt_entry.specs.Doings.{in_turn, is_of_slot, is_on, channels_of, openi
 use Rattle.rt_entry.specs.Answers.{answer_of, answers_by}
 use Rattle.rt_entry.specs.Presence.{said_to}
 use Rattle.rt_laws.specs.Departures.{leave_for, found_by, heard}
-use Rattle.rt_entry.proofs.Shapes.{AreApart, eqb_same, same_number}
+use Rattle.rt_entry.proofs.Shapes.{AreApart, eqb_same}
 use Rattle.rt_entry.proofs.Sound.{members_in, Shaped, members_apart}
 use Rattle.rt_entry.proofs.Unique.{RisingMembers, members_rising, same_member}
 use Rattle.rt_entry.proofs.Journals.{story_shaped}
+use Rattle.rt_presence.proofs.Agree.{commute}
 
 -- messages to a channel's slot on its topic
 abbrev pub hears : Channel → List Part → List Message
@@ -79,17 +81,6 @@ sole (x ∷ y ∷ more) h r a i =
     let lt = r.0.0 in
     let same : x.channel.number ≡ y.channel.number = ap (λ (m : Member). m.channel.number) (a.0 ∙ sym a.1.0) in absurd (omega arith)
 
-and_parts : (x y : Bool) → (x && y) ≡ true → (x ≡ true) × (y ≡ true)
-and_parts true y e = (refl, e)
-and_parts false y e = absurd (cc)
-
-both_true : (x y : Bool) → x ≡ true → y ≡ true → (x && y) ≡ true
-both_true true y e f = f
-both_true false y e f = absurd (cc)
-
-filter_turn : {A : Type 0} (p q : A → Bool) (xs : List A) → filter p (filter q xs) ≡ filter q (filter p xs)
-filter_turn p q xs = sym (filter_and p q xs) ∙ filter_same (λ x. q x && p x) (λ x. p x && q x) (λ x. and_swap (q x) (p x)) xs ∙ filter_and q p xs
-
 pub no_departures : (joins leaves : List Track) (ms : List Member) → departed_in (map (diff_to joins leaves) ms) ≡ []
 no_departures joins leaves [] = refl
 no_departures joins leaves (m ∷ ms) = no_departures joins leaves ms
@@ -105,14 +96,14 @@ module _ (now : Now) (h : Member) (in_members : Among now.members h) (rises : Ri
   alone =
       let found = filter (at h.channel) now.members in
       let here : at h.channel h ≡ true =
-      both_true (h.channel.slot == h.channel.slot) (bytes_eq h.channel.topic h.channel.topic) (eqb_same h.channel.slot)
+      and_from (h.channel.slot == h.channel.slot) (bytes_eq h.channel.topic h.channel.topic) (eqb_same h.channel.slot)
       ((bytes_eq-Decides h.channel.topic h.channel.topic).1 refl) in
       sole found h (rising_filter (at h.channel) now.members rises)
       (all_weaker (Among found) (λ (g : Member). g ≡ h) found
       (λ g i.
       let f = among_filter (at h.channel) now.members g i in
       let t = and_parts (g.channel.slot == h.channel.slot) (bytes_eq g.channel.topic h.channel.topic) f.1 in
-      apart g h f.0 in_members (same_number g.channel.slot h.channel.slot t.0) ((bytes_eq-Decides g.channel.topic h.channel.topic).0 t.1))
+      apart g h f.0 in_members (eqb-true g.channel.slot h.channel.slot t.0) ((bytes_eq-Decides g.channel.topic h.channel.topic).0 t.1))
       (all_themselves found))
       (filter_among (at h.channel) now.members h in_members here)
 
@@ -136,7 +127,7 @@ module _ (now : Now) (h : Member) (in_members : Among now.members h) (rises : Ri
   hears_own gone topic joins leaves stays =
       let say : Member → Message = λ m. presence_diff m.channel joins leaves in
       hears_diffs h.channel joins leaves (filter (watches gone topic) now.members)
-      ∙ ap (map say) (filter_turn (at h.channel) (watches gone topic) now.members ∙ ap (filter (watches gone topic)) alone)
+      ∙ ap (map say) (commute (at h.channel) (watches gone topic) now.members ∙ ap (filter (watches gone topic)) alone)
       ∙ ap (λ b. map say (cond b (h ∷ []) [])) (watching gone topic (bytes_eq h.channel.topic topic) refl stays)
       ∙ one_or_none joins leaves (bytes_eq h.channel.topic topic)
 
@@ -177,7 +168,7 @@ module _ (c : Catalog) (s : Settings) where
       (λ g i.
       let f = among_filter (is_of_slot slot) (members_in st) g i in
       elim (eqb_tells g.channel.number h.channel.number) [
-        | inl t ↦ absurd (ne (sym (ap (λ (m : Member). m.channel.slot) (same_member st g h sh f.0 here t.1)) ∙ same_number g.channel.slot slot f.1))
+        | inl t ↦ absurd (ne (sym (ap (λ (m : Member). m.channel.slot) (same_member st g h sh f.0 here t.1)) ∙ eqb-true g.channel.slot slot f.1))
         | inr t ↦ t.0
       ]) (all_themselves gs)
 

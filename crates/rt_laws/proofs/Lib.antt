@@ -6,7 +6,7 @@ mod Clients
 mod Columns
 mod Doing
 mod Due
-mod Exactly
+pub mod Exactly
 pub mod Fitting
 mod Follows
 mod Frames

@@ -15,10 +15,7 @@ use Rattle.rt_entry.specs.declared.story.Track.{Track}
 use Rattle.rt_entry.specs.Messages.{shown_meta, presence_state, presence_diff}
 use Rattle.rt_entry.specs.Presence.{after_message, client_view}
 use Rattle.rt_laws.specs.Views.{Difference, leaves_in, after_differences, Fit, AllFit}
-
-any_of_map : {A C : Type 0} (p : C → Bool) (f : A → C) (xs : List A) → list_any p (map f xs) ≡ list_any (λ x. p (f x)) xs
-any_of_map p f [] = refl
-any_of_map p f (x ∷ xs) = ap (λ b. p (f x) || b) (any_of_map p f xs)
+use Rattle.rt_entry.proofs.Sound.{any_map}
 
 any_alike : {A : Type 0} (p q : A → Bool) (xs : List A) → AllOf (λ x. p x ≡ q x) xs → list_any p xs ≡ list_any q xs
 any_alike p q [] e = refl
@@ -38,7 +35,7 @@ reads_leave : (leaves : List Track) (t : Track) → Fit leaves → t.reference <
     → is_among (map shown_meta leaves) (shown_meta t) ≡ leaves_in leaves t
 reads_leave leaves t f lt =
     let p : Held → Bool = λ g. bytes_eq (reference_of g) (reference_of (shown_meta t)) in
-    any_of_map p shown_meta leaves
+    any_map p shown_meta leaves
     ∙ any_alike (λ (u : Track). p (shown_meta u)) (λ (u : Track). u.reference == t.reference) leaves
     (all_weaker (λ (u : Track). u.reference < 2 ^ 64) (λ (u : Track). p (shown_meta u) ≡ (u.reference == t.reference)) leaves
     (λ u a. ap (λ (x : List ℕ). bytes_eq x (reference_of (shown_meta t))) (own_reference u) ∙ ap (bytes_eq (decimal u.reference)) (own_reference t)

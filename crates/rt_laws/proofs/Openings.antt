@@ -3,6 +3,7 @@ use Rattle.std.proofs.Common.{◌≡◌, ℕ, zero, suc, ◌+◌, ◌<◌, ◌�
 use Rattle.std.specs.Prelude.{◌==◌, codes, slice_get, option_map}
 use Rattle.std.specs.List.{filter, flat_map, enumerate_from, range_with_len}
 use Rattle.std.proofs.lemmas.Bool.Decides.{eqb_tells}
+use Rattle.std.proofs.lemmas.Bool.{eqb-true, or_left, eq-eqb, ne_eqb}
 use Rattle.rt_value.specs.declared.row.Row.{Row}
 use Rattle.rt_value.specs.Choice.{◌>>=◌}
 use Rattle.rt_value.proofs.Among.{to_contains}
@@ -22,7 +23,7 @@ use Rattle.rt_entry.specs.Doings.{in_turn, or_none, opening_in, channels_of, end
 use Rattle.rt_entry.specs.Answers.{told, all_answers}
 use Rattle.rt_entry.specs.After.{done_by}
 use Rattle.rt_laws.specs.Openings.{left_open, is_there, OpeningsAreWhole}
-use Rattle.rt_entry.proofs.Shapes.{AreApart, Below, or_left, same_number}
+use Rattle.rt_entry.proofs.Shapes.{AreApart, Below}
 use Rattle.rt_entry.proofs.Sound.{held_below, members_apart}
 use Rattle.rt_entry.proofs.Journals.{story_shaped}
 use Rattle.rt_entry.proofs.Opens.{end_has}
@@ -31,7 +32,6 @@ use Rattle.rt_entry.proofs.Marks.{told_none, answers_none}
 use Rattle.rt_laws.proofs.Since.{told_by, told_parts, told_more}
 use Rattle.rt_laws.proofs.Turning.{Leads, Mild, left_append, leads_then, mild_leads, ends_leads, state_follows}
 use Rattle.rt_laws.proofs.Whole.{Remains, MaySay, Knows, Goes, more_gone, mild_turn, mild_fail, own_channels, may_say, end_mild, end_own, goes_mild, open_goes, end_if_goes, frame_goes, mild_post, mild_poll}
-use Rattle.rt_laws.proofs.Turns.{same_true, other_false}
 
 no_say : (now : Now) (slot : ℕ) (b : Bool) (n : ℕ) → (n == slot) ≡ false → MaySay now slot b n
 no_say now slot b n ne e = absurd (let k : false ≡ true = sym ne ∙ e in cc)
@@ -73,7 +73,7 @@ module _ (now : Now) (slot : ℕ) where
   nobody : (gone : List ℕ) (n : ℕ) → (n == slot) ≡ true → Remains now slot false (departed_in (end_of now gone n end_name.Idle) ++ gone)
   nobody gone n e h here is stays =
       let ps = end_of now gone n end_name.Idle in
-      let at : h.channel.slot ≡ n = is ∙ sym (same_number n slot e) in
+      let at : h.channel.slot ≡ n = is ∙ sym (eqb-true n slot e) in
       let left : has h.channel.number (departed_in ps ++ gone) ≡ true =
       any_append (λ j. j == h.channel.number) (departed_in ps) gone ∙ or_left (has h.channel.number (departed_in ps)) _ (end_has now gone n end_name.Idle h here at) in
       absurd (let k : true ≡ false = sym left ∙ stays in cc)
@@ -93,7 +93,7 @@ module _ (now : Now) (slot : ℕ) where
   ticks_behind b moment from [] gone lt r = tt
   ticks_behind b moment from (o ∷ os) gone lt r =
       let here = tick_parts now moment gone (from, o) in
-      let ne : (from == slot) ≡ false = other_false from slot (λ e. omega arith) in
+      let ne : (from == slot) ≡ false = ne_eqb from slot (λ e. omega arith) in
       all_append (Mild slot b) here (in_turn (tick_parts now moment) (departed_in here ++ gone) (enumerate_from (from + 1) os))
       (tick_other b moment gone from o ne r)
       (ticks_behind b moment (from + 1) os (departed_in here ++ gone) (omega arith) (more_gone now slot b (departed_in here) gone r))
@@ -106,7 +106,7 @@ module _ (now : Now) (slot : ℕ) where
   tick_here false moment from (Some o) os gone at is r = absurd (cc)
   tick_here true moment from (Some o) os gone at is r =
       let here = tick_parts now moment gone (from, Some o) in
-      let e : (from == slot) ≡ true = same_true from slot at in
+      let e : (from == slot) ≡ true = eq-eqb from slot at in
       let land = tick_own moment gone from o e r in
       let rest = in_turn (tick_parts now moment) (departed_in here ++ gone) (enumerate_from (from + 1) os) in (
         land.0,
@@ -145,7 +145,7 @@ module _ (now : Now) (slot : ℕ) where
       → AllOf (Mild slot b) (flat_map (stop_parts now) (enumerate_from from os))
   stops_behind b from [] lt = tt
   stops_behind b from (o ∷ os) lt =
-      let ne : (from == slot) ≡ false = other_false from slot (λ e. omega arith) in
+      let ne : (from == slot) ≡ false = ne_eqb from slot (λ e. omega arith) in
       all_append (Mild slot b) (stop_parts now (from, o)) (flat_map (stop_parts now) (enumerate_from (from + 1) os)) (stop_other b from o ne)
       (stops_behind b (from + 1) os (omega arith))
 
@@ -160,7 +160,7 @@ module _ (now : Now) (slot : ℕ) where
       let rest = flat_map (stop_parts now) (enumerate_from (from + 1) os) in
       leads_then slot true false false (ds ++ Ends from end_name.Stopped ∷ []) rest
       (leads_then slot true true false ds (Ends from end_name.Stopped ∷ []) (mild_leads slot true ds (mild_leavers true (channels_of now from)))
-      (ends_leads slot from false end_name.Stopped [] (same_true from slot at) refl))
+      (ends_leads slot from false end_name.Stopped [] (eq-eqb from slot at) refl))
       (mild_leads slot false rest (stops_behind false (from + 1) os (omega arith)))
 
   pub stops_end : (b : Bool) (from : ℕ) (os : List (Option Opening)) → from ≤ slot → slot < from + length os → Holds b from os
@@ -185,7 +185,7 @@ module _ (now : Now) (slot : ℕ) where
     input_goes b tables i lt is r = by i
       where
         knows : (n : ℕ) → Knows now slot b n (opening_in now n)
-        knows n e = let P : ℕ → Type 0 = λ k. is_there (opening_in now k) ≡ b in subst P (sym (same_number n slot e)) is
+        knows n e = let P : ℕ → Type 0 = λ k. is_there (opening_in now k) ≡ b in subst P (sym (eqb-true n slot e)) is
 
         holds : Holds b 0 now.opens
         holds n o e f =

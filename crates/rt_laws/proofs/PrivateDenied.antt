@@ -13,6 +13,7 @@ use Rattle.rt_entry.specs.declared.story.Part.{Part}
 use Rattle.rt_entry.specs.Doings.{doings, posting_parts, may_post, may_send}
 use Rattle.rt_entry.specs.Answers.{answer_of, answers_by}
 use Rattle.rt_laws.specs.Private.{DenialsAreReasons, ReasonsAreDenials, NothingIsDenied, PostsRunOut, EachIsPosted, found_by, tables_by}
+use Rattle.rt_catalog.proofs.Found.{bind_some}
 
 pub posts_run_out : (c : Catalog) (s : Settings) → PostsRunOut c s
 unfolding answers_by doings
@@ -23,10 +24,6 @@ posts_run_out c s before slot claims messages e =
     ap (λ (b : Bool). filter_map answer_of (elim b as (λ x. List Part) [ true ↦ [] | false ↦ said ])) e
 
 module _ (c : Catalog) where
-  bind_some : {A B : Type 0} (o : Option A) (f : A → Option B) (y : B) → (o >>= f) ≡ Some y → (x : A) × (o ≡ Some x) × (f x ≡ Some y)
-  bind_some None f y e = absurd (cc)
-  bind_some (Some x) f y e = (x, refl, e)
-
   pub denials_are_reasons : DenialsAreReasons c
   unfolding denial
   denials_are_reasons rows role claims name use_ why e =

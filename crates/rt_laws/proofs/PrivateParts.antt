@@ -4,6 +4,7 @@ use Rattle.std.specs.Prelude.{⊤, ◌==◌, codes, if◌then◌else◌, option_
 use Rattle.std.specs.List.{filter, flat_map, enumerate_from}
 use Rattle.std.specs.Str.{bytes_eq}
 use Rattle.std.proofs.lemmas.Slice.Eq.{bytes_eq-Decides}
+use Rattle.std.proofs.lemmas.Bool.{eqb-true}
 use Rattle.rt_value.specs.declared.claims.Claims.{Claims}
 use Rattle.rt_value.specs.declared.row.Row.{Row}
 use Rattle.rt_value.proofs.Among.{Among, among_filter}
@@ -39,13 +40,9 @@ use Rattle.rt_entry.specs.Joining.{Checked, channel_of_join, renewal_of}
 use Rattle.rt_entry.specs.Story.{Now, departed_in}
 use Rattle.rt_entry.specs.Doings.{tell, in_turn, opening_in, is_of_slot, is_on, channels_of, channel_on, track_of, watches, diff_to, diffs, leave_diffs, depart, end_of, end_if_open, close, fail, tell_if, open_parts, has_bindings, present_on, join_result_parts, others, renewal_parts, gets_broadcast, broadcast_part, broadcast_parts, track_by, untrack_part, untrack_parts, is_shut, is_idle, has_run_out, tick_parts, departs_of, stop_parts, subscriptions, view_of, opening_of, denied_ask, join_over_former, join_parts, ask_parts, permitted_parts, judged_parts, channel_parts, message_parts, frame_parts, posting_parts, may_post, post_parts, gets, change_parts, change_parts_to, change_parts_to_all, poll_parts, doings}
 use Rattle.rt_laws.specs.Private.{IsJudged, IsAdmitted}
-use Rattle.rt_entry.proofs.Shapes.{same_number, all_flat_of}
+use Rattle.rt_entry.proofs.Shapes.{all_flat_of}
 use Rattle.rt_laws.proofs.PrivateJudged.{IsGood, join_judged, renewal_judged}
-
--- what is kept was there, and passed
-kept_each : {A : Type 0} (p : A → Bool) (xs : List A) → AllOf (λ x. Among xs x × (p x ≡ true)) (filter p xs)
-kept_each p xs =
-    all_weaker (Among (filter p xs)) (λ x. Among xs x × (p x ≡ true)) (filter p xs) (λ x h. among_filter p xs x h) (all_themselves (filter p xs))
+use Rattle.rt_laws.proofs.Lists.{kept_each}
 
 -- nothing else is a broadcast
 never : {A : Type 0} → false ≡ true → A
@@ -190,7 +187,7 @@ module _ (c : Catalog) (s : Settings) (now : Now) (tables : List (List Row)) (He
     found topic =
         find_of IsOwn (λ m. is_on topic m.channel) (channels_of now slot)
         (all_weaker (λ h. Among now.members h × (is_of_slot slot h ≡ true)) IsOwn (channels_of now slot)
-        (λ h k. (k.0, same_number h.channel.slot slot k.1)) (kept_each (is_of_slot slot) now.members))
+        (λ h k. (k.0, eqb-true h.channel.slot slot k.1)) (kept_each (is_of_slot slot) now.members))
 
     all_broadcast : (h : Member) (m : Message) → IsOwn h → h.standing.send ≡ None → AllOf Permitted (broadcast_parts now h.channel m)
     all_broadcast h m own may =
@@ -204,7 +201,7 @@ module _ (c : Catalog) (s : Settings) (now : Now) (tables : List (List Row)) (He
         reached : (g : Member) → Among now.members g → gets_broadcast h.channel g.channel ≡ true → h.channel.topic ≡ g.channel.topic
         reached g here e =
             same_topic h.channel g.channel (g.channel.number == h.channel.number)
-            (λ t. ap (λ (k : Member). k.channel.topic) (numbered h g own.0 here (sym (same_number g.channel.number h.channel.number t)))) e
+            (λ t. ap (λ (k : Member). k.channel.topic) (numbered h g own.0 here (sym (eqb-true g.channel.number h.channel.number t)))) e
 
     all_ask : (o : Opening) (h : Member) (m : Message) (k : Ask) → IsOwn h → denied_ask h.standing k ≡ None → AllOf Permitted (ask_parts c s now tables o h m k)
     all_ask o h m leave own may = (never, all_close [] h)

@@ -6,6 +6,7 @@ use Rattle.std.specs.List.{list_all}
 use Rattle.std.proofs.lemmas.Bool.Decides.{nat_tests}
 use Rattle.std.proofs.lemmas.Fmt.{decimal_by_steps_wide, IsAscii-decimal_wide}
 use Rattle.std.proofs.lemmas.Str.{IsUtf8-append, IsUtf8-nil, IsUtf8-from_ascii, encode_ascii, char_from_byte}
+use Rattle.std.proofs.lemmas.Bool.{and_parts}
 use lib.Pointwise.{pointwise}
 use lib.Utf8.{scalar, scalars, encode, encodes}
 use Rattle.rt_json.specs.Text.{IsNumber, IsWhole, is_digit}
@@ -16,14 +17,10 @@ use Rattle.rt_json.proofs.WrittenUtf8.{one_byte}
 abbrev pub is_ascii_byte : ℕ → Bool
 is_ascii_byte b = nat_lt b 128
 
-pub both : (a b : Bool) → (a && b) ≡ true → (a ≡ true) × (b ≡ true)
-both true b e = (refl, e)
-both false b e = absurd (cc)
-
 pub word : (bs : List ℕ) → list_all is_ascii_byte bs ≡ true → IsUtf8 bs
 word [] h = IsUtf8-nil
 word (b ∷ bs) h =
-    let t = both (nat_lt b 128) (list_all is_ascii_byte bs) h in
+    let t = and_parts (nat_lt b 128) (list_all is_ascii_byte bs) h in
     let e = t.0 in
     let low : b < 128 = grind (arith, nat_tests) in
     IsUtf8-append (b ∷ []) bs (one_byte b low) (word bs t.1)
@@ -50,7 +47,7 @@ first_digit (suc n) h = inr (digit (suc n) h, (let e : (48 + suc n == 48) ≡ fa
 all_more : (xs ys : List ℕ) → list_all is_digit xs ≡ true → list_all is_digit ys ≡ true → list_all is_digit (xs ++ ys) ≡ true
 all_more [] ys a b = b
 all_more (x ∷ xs) ys a b =
-    let t = both (is_digit x) (list_all is_digit xs) a in
+    let t = and_parts (is_digit x) (list_all is_digit xs) a in
     let here = t.0 in
     let more = all_more xs ys t.1 b in
     ap (λ c. c && list_all is_digit (xs ++ ys)) here ∙ more
@@ -93,7 +90,7 @@ same_char (c ∷ cs) bs b low s e =
     let one : encode c ≡ b ∷ [] = ap encode is ∙ encode_ascii b low in
     let all : b ∷ encodes cs ≡ b ∷ bs = ap (λ (xs : List ℕ). xs ++ encodes cs) (sym one) ∙ e in
     let rest : encodes cs ≡ bs = cc in
-    (cs, ((both (scalar c) (scalars cs) s).1, rest))
+    (cs, ((and_parts (scalar c) (scalars cs) s).1, rest))
 
 behind_byte : (b : ℕ) (bs : List ℕ) → b < 128 → IsUtf8 (b ∷ bs) → IsUtf8 bs
 behind_byte b bs low u = same_char u.0 bs b low u.1.0 u.1.1
@@ -106,8 +103,8 @@ pub behind : (needle bs : List ℕ) → list_all is_ascii_byte needle ≡ true �
 behind [] bs a e u = u
 behind (p ∷ ps) [] a e u = absurd (cc)
 behind (p ∷ ps) (b ∷ bs) a e u =
-    let t = both (nat_lt p 128) (list_all is_ascii_byte ps) a in
-    let s = both (nat_eq p b) (pointwise nat_eq ps (take (length ps) bs)) e in
+    let t = and_parts (nat_lt p 128) (list_all is_ascii_byte ps) a in
+    let s = and_parts (nat_eq p b) (pointwise nat_eq ps (take (length ps) bs)) e in
     let is = same_byte p b s.0 in
     let f = t.0 in
     let ascii : p < 128 = grind (arith, nat_tests) in

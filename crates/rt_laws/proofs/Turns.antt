@@ -7,6 +7,7 @@ use Rattle.std.proofs.lemmas.Bool.Decides.{eqb_tells}
 use Rattle.std.proofs.lemmas.List.Concat.{flat_map-append}
 use Rattle.std.proofs.lemmas.List.Elements.{filter_map-append}
 use Rattle.std.proofs.lemmas.Slice.Eq.{bytes_eq-Decides}
+use Rattle.std.proofs.lemmas.Bool.{eqb-true, or_parts, eq-eqb, ne_eqb}
 use Rattle.rt_value.proofs.Among.{Among}
 use Rattle.rt_value.proofs.Plain.{AllOf, all_append, all_filter, all_weaker, all_themselves, all_every, all_among, any_append, filter_and, filter_same, filter_alike}
 use Rattle.rt_value.proofs.Moves.{Moves, then_to, moves_same}
@@ -27,10 +28,11 @@ use Rattle.rt_entry.specs.After.{tracks_in}
 use Rattle.rt_laws.specs.Departures.{leave_for}
 use Rattle.rt_laws.specs.Views.{leaves_in}
 use Rattle.rt_laws.proofs.Metas.{reads_difference}
-use Rattle.rt_entry.proofs.Shapes.{AreApart, same_number}
+use Rattle.rt_entry.proofs.Shapes.{AreApart}
 use Rattle.rt_entry.proofs.Unique.{RisingMembers}
 use Rattle.rt_entry.proofs.Tracked.{Apart}
 use Rattle.rt_laws.proofs.Hears.{hears, hears_append, hears_leave, none_leave}
+use Rattle.rt_presence.proofs.Stands.{number_flip}
 
 pub view_append : (held : List Held) (xs ys : List Message) → client_view held (xs ++ ys) ≡ client_view (client_view held xs) ys
 view_append held [] ys = refl
@@ -94,17 +96,6 @@ mute_view ch held (Tracks t ∷ ps) a = absurd a.0
 mute_view ch held (Untracks k ∷ ps) a = absurd a.0
 mute_view ch held (Departs k ∷ ps) a = absurd a.0
 
-pub eqb_turn : (n m : ℕ) → (n == m) ≡ (m == n)
-eqb_turn n m = elim (eqb_tells n m) [
-  | inl t ↦ t.0 ∙ sym (same_true m n (sym t.1))
-  | inr t ↦ t.0 ∙ sym (other_false m n (λ e. t.1 (sym e)))
-] where
-  same_true : (x y : ℕ) → x ≡ y → (x == y) ≡ true
-  same_true x y e = elim (eqb_tells x y) [ inl u ↦ u.0 | inr u ↦ absurd (u.1 e) ]
-
-  other_false : (x y : ℕ) → (x ≡ y → ⊥) → (x == y) ≡ false
-  other_false x y ne = elim (eqb_tells x y) [ inl u ↦ absurd (ne u.1) | inr u ↦ u.0 ]
-
 -- the tracks that a find passes over, or the one that it finds
 none_case : (n : ℕ) (t : Track) (ts : List Track) (b : Bool) → (t.channel == n) ≡ b
     → (find (λ (u : Track). u.channel == n) ts ≡ None → AllOf (λ (u : Track). (u.channel == n) ≡ false) ts)
@@ -125,12 +116,6 @@ one_case n t u ts false e f g = let r = f g in (inr r.0, r.1)
 pub one_found : (n : ℕ) (ts : List Track) (u : Track) → find (λ (t : Track). t.channel == n) ts ≡ Some u → Among ts u × ((u.channel == n) ≡ true)
 one_found n [] u e = absurd (cc)
 one_found n (t ∷ ts) u e = one_case n t u ts (t.channel == n) refl (one_found n ts u) e
-
-pub same_true : (n m : ℕ) → n ≡ m → (n == m) ≡ true
-same_true n m e = elim (eqb_tells n m) [ inl t ↦ t.0 | inr t ↦ absurd (t.1 e) ]
-
-pub other_false : (n m : ℕ) → (n ≡ m → ⊥) → (n == m) ≡ false
-other_false n m ne = elim (eqb_tells n m) [ inl t ↦ absurd (ne t.1) | inr t ↦ t.0 ]
 
 pub no_track_parts : (joins leaves : List Track) (ms : List Member) → tracks_in (map (diff_to joins leaves) ms) ≡ []
 no_track_parts joins leaves [] = refl
@@ -197,7 +182,7 @@ module _ (now : Now) (h : Member) (in_members : Among now.members h) (rises : Ri
             let n = h.channel.number in
             let stays_on : has n (dq ++ (dp ++ gone)) ≡ false = sym (ap (λ (xs : List ℕ). has n (xs ++ gone)) ds ∙ has_turn n dp dq gone) ∙ stays in
             let before : has n (dp ++ gone) ≡ false =
-            or_second (has n dq) (has n (dp ++ gone)) (sym (any_append (λ j. j == n) dq (dp ++ gone)) ∙ stays_on) in
+            (or_parts (has n dq) (has n (dp ++ gone)) (sym (any_append (λ j. j == n) dq (dp ++ gone)) ∙ stays_on)).1 in
             let mid = client_view held (hears h.channel ps) in
             let all = client_view held (hears h.channel (ps ++ qs)) in
             let is : all ≡ client_view mid (hears h.channel qs) =
@@ -232,8 +217,8 @@ module _ (now : Now) (h : Member) (in_members : Among now.members h) (rises : Ri
 
   pub of_one : (n : ℕ) (t x : Track) → Among now.tracks t → Among now.tracks x → t.channel ≡ n → (t.reference == x.reference) ≡ (n == x.channel)
   of_one n t x a b e = elim (eqb_tells n x.channel) [
-    | inl k ↦ same_true t.reference x.reference (ap (λ (u : Track). u.reference) (chans t x a b (e ∙ k.1))) ∙ sym k.0
-    | inr k ↦ other_false t.reference x.reference (λ r. k.1 (sym e ∙ ap (λ (u : Track). u.channel) (refs t x a b r))) ∙ sym k.0
+    | inl k ↦ eq-eqb t.reference x.reference (ap (λ (u : Track). u.reference) (chans t x a b (e ∙ k.1))) ∙ sym k.0
+    | inr k ↦ ne_eqb t.reference x.reference (λ r. k.1 (sym e ∙ ap (λ (u : Track). u.channel) (refs t x a b r))) ∙ sym k.0
   ]
 
   leave_none : (gone : List ℕ) (n : ℕ) → track_of now n ≡ None → shown_still gone ≡ shown_still (n ∷ gone)
@@ -241,7 +226,7 @@ module _ (now : Now) (h : Member) (in_members : Among now.members h) (rises : Ri
       let other : AllOf (λ (t : Track). (t.channel == n) ≡ false) now.tracks = none_found n now.tracks e in
       ap (map shown_meta) (ap (filter on) (filter_alike (left gone) (left (n ∷ gone)) now.tracks
       (all_weaker (λ (t : Track). (t.channel == n) ≡ false) (λ (t : Track). left gone t ≡ left (n ∷ gone) t) now.tracks
-      (λ t f. ap (λ (b : Bool). not (b || has t.channel gone)) (sym (eqb_turn n t.channel ∙ f))) other)))
+      (λ t f. ap (λ (b : Bool). not (b || has t.channel gone)) (sym (number_flip n t.channel ∙ f))) other)))
 
   leave_on : (gone : List ℕ) (n : ℕ) (t : Track) (held : List Held) → Among now.tracks t → t.channel ≡ n → Moves held (shown_still gone)
       → Moves (after_message held (presence_diff h.channel [] (t ∷ []))) (shown_still (n ∷ gone))
@@ -269,7 +254,7 @@ module _ (now : Now) (h : Member) (in_members : Among now.members h) (rises : Ri
       ap (map shown_meta) (still_is gone
       ∙ filter_alike (λ u. left gone u && on u) (λ u. left (n ∷ gone) u && on u) now.tracks
       (all_weaker (Among now.tracks) (λ (u : Track). (left gone u && on u) ≡ (left (n ∷ gone) u && on u)) now.tracks
-      (λ u b. tests_off (n == u.channel) (has u.channel gone) (on u) (λ k. ap on (sym (chans t u a b (e ∙ same_number n u.channel k))) ∙ off))
+      (λ u b. tests_off (n == u.channel) (has u.channel gone) (on u) (λ k. ap on (sym (chans t u a b (e ∙ eqb-true n u.channel k))) ∙ off))
       (all_themselves now.tracks))
       ∙ sym (still_is (n ∷ gone)))
 
@@ -293,7 +278,7 @@ module _ (now : Now) (h : Member) (in_members : Among now.members h) (rises : Ri
   leave_view gone n None held e m = let P : List Held → Type 0 = Moves held in subst P (leave_none gone n e) m
   leave_view gone n (Some t) held e m =
       let f = one_found n now.tracks t e in
-      leave_case gone n t held (bytes_eq h.channel.topic t.topic) refl f.0 (same_number t.channel n f.1) m
+      leave_case gone n t held (bytes_eq h.channel.topic t.topic) refl f.0 (eqb-true t.channel n f.1) m
 
   pub turns_depart : (gone : List ℕ) (g : Member) → Turns (depart now gone g) gone
   turns_depart gone g =

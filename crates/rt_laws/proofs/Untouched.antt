@@ -2,6 +2,7 @@
 use Rattle.std.proofs.Common.{not, ◌≡◌, ◌⊎◌, ℕ, ◌+◌, ◌-◌, ◌≤◌, Bool, true, false, ◌&&◌, List, [], ◌∷◌, ◌++◌, length, Option, Some, None, refl, ap, subst, arith, inl, inr}
 use Rattle.std.specs.Prelude.{◌==◌, nat_lt, nat_le, ◌≢◌}
 use Rattle.std.proofs.lemmas.Bool.Decides.{nat_tests, eqb_tells}
+use Rattle.std.proofs.lemmas.Bool.{and_parts}
 use Rattle.rt_catalog.specs.declared.catalog.Catalog.{Catalog}
 use Rattle.rt_entry.specs.declared.input.Input.{Input}
 use Rattle.rt_entry.specs.declared.input.Settings.{Settings}
@@ -48,14 +49,6 @@ Keeps w slot r = IsUntouched w r.1 slot
 by_case : (w : World) (slot : ℕ) (b : Bool) (x y : Outcome × World) → Keeps w slot x → Keeps w slot y → Keeps w slot (elim b [ true ↦ x | false ↦ y ])
 by_case w slot true x y f g = f
 by_case w slot false x y f g = g
-
-pub and_right : (a b : Bool) → (a && b) ≡ true → b ≡ true
-and_right true b h = h
-and_right false b h = absurd (cc)
-
-pub false_of : (b : Bool) → not b ≡ true → b ≡ false
-false_of true e = absurd (cc)
-false_of false e = refl
 
 pub le_from : (n m : ℕ) → nat_le n m ≡ true → n ≤ m
 le_from n m h = grind (arith, nat_tests)
@@ -172,7 +165,7 @@ module _ (c : Catalog) (s : Settings) where
       let k : Cut = record { opening = p.opening; place = p.place } in
       inr (
         le_from s.capacity (messages_in (outbox (w.slots n)))
-            (and_right (is_message p.item) (nat_le s.capacity (messages_in (outbox (w.slots n)))) e),
+            (and_parts (is_message p.item) (nat_le s.capacity (messages_in (outbox (w.slots n)))) e).1,
         (k, ap (λ (x : Slot). x.cuts) (at_itself w.slots n (with_cut (w.slots n) p))),
       )
   push_case w n p false e = inl (ap (λ (x : Slot). x.cuts) (at_itself w.slots n (with_given (w.slots n) p)))

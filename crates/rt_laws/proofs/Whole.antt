@@ -3,6 +3,7 @@ use Rattle.std.proofs.Common.{◌≡◌, ℕ, Bool, true, false, not, List, [], 
 use Rattle.std.specs.Prelude.{◌==◌, codes, if◌then◌else◌, option_to_list}
 use Rattle.std.specs.List.{filter, flat_map}
 use Rattle.std.proofs.lemmas.Bool.Decides.{eqb_tells}
+use Rattle.std.proofs.lemmas.Bool.{eqb-true, not-true, or_parts}
 use Rattle.rt_value.specs.declared.row.Row.{Row}
 use Rattle.rt_value.proofs.Among.{Among, among_filter}
 use Rattle.rt_value.proofs.Plain.{AllOf, Maybe, all_append, all_map_of, all_weaker, all_themselves, any_append, find_of, all_flat}
@@ -36,15 +37,10 @@ use Rattle.rt_entry.specs.Messages.{subscribed_message, presence_state}
 use Rattle.rt_entry.specs.Joining.{Checked, channel_of_join, renewal_of}
 use Rattle.rt_entry.specs.Doings.{tell, in_turn, opening_in, is_of_slot, is_on, channels_of, channel_on, track_of, watches, diff_to, diffs, leave_diffs, depart, end_of, end_if_open, close, fail, tell_if, open_parts, has_bindings, present_on, join_result_parts, others, renewal_parts, gets_broadcast, broadcast_part, broadcast_parts, track_by, untrack_part, is_shut, subscriptions, view_of, join_over_former, join_parts, ask_parts, channel_parts, message_parts, frame_parts, gets, change_parts, change_parts_to, change_parts_to_all, posting_parts, post_parts, may_post, permitted_parts, judged_parts, denied_ask}
 use Rattle.rt_laws.specs.Openings.{is_there}
-use Rattle.rt_entry.proofs.Shapes.{all_flat_of, AreApart, Below, IsMade, option_all, join_made, same_number}
-use Rattle.rt_entry.proofs.Opens.{or_second}
-use Rattle.rt_laws.proofs.Due.{and_parts}
+use Rattle.rt_entry.proofs.Shapes.{all_flat_of, AreApart, Below, IsMade, option_all, join_made}
+use Rattle.rt_laws.proofs.Due.{three_parts}
 use Rattle.rt_laws.proofs.Turning.{Leads, Mild, leads_then, mild_leads, opens_leads, ends_leads}
-use Rattle.rt_laws.proofs.Untouched.{false_of}
-
-kept_each : {A : Type 0} (p : A → Bool) (xs : List A) → AllOf (λ x. Among xs x × (p x ≡ true)) (filter p xs)
-kept_each p xs =
-    all_weaker (Among (filter p xs)) (λ x. Among xs x × (p x ≡ true)) (filter p xs) (λ x h. among_filter p xs x h) (all_themselves (filter p xs))
+use Rattle.rt_laws.proofs.Lists.{kept_each}
 
 module _ (now : Now) (slot : ℕ) where
   -- where a member of the slot remains, the slot is open
@@ -58,13 +54,13 @@ module _ (now : Now) (slot : ℕ) where
   pub more_gone : (b : Bool) (xs gone : List ℕ) → Remains b gone → Remains b (xs ++ gone)
   more_gone b xs gone r h here is stays =
       let n = h.channel.number in
-      r h here is (or_second (has n xs) (has n gone) (sym (any_append (λ j. j == n) xs gone) ∙ stays))
+      r h here is (or_parts (has n xs) (has n gone) (sym (any_append (λ j. j == n) xs gone) ∙ stays)).1
 
   mild_diffs : (b : Bool) (gone topic : List ℕ) (joins leaves : List Track) → Remains b gone → AllOf (Mild slot b) (diffs now gone topic joins leaves)
   mild_diffs b gone topic joins leaves r =
       all_map_of (Mild slot b) (λ h. Among now.members h × (watches gone topic h ≡ true)) (diff_to joins leaves) (filter (watches gone topic) now.members)
-      (λ h x e. r h x.0 (same_number h.channel.slot slot e)
-      (false_of (has h.channel.number gone) (and_parts (is_on topic h.channel) h.channel.presence (not (has h.channel.number gone)) x.1).2))
+      (λ h x e. r h x.0 (eqb-true h.channel.slot slot e)
+      (not-true (has h.channel.number gone) (three_parts (is_on topic h.channel) h.channel.presence (not (has h.channel.number gone)) x.1).2))
       (kept_each (watches gone topic) now.members)
 
   mild_leave : (b : Bool) (gone : List ℕ) (o : Option Track) → Remains b gone → AllOf (Mild slot b) (leave_diffs now gone o)
@@ -98,7 +94,7 @@ module _ (now : Now) (slot : ℕ) where
   pub own_channels : (n : ℕ) → AllOf (λ (h : Member). h.channel.slot ≡ n) (channels_of now n)
   own_channels n =
       all_weaker (λ h. Among now.members h × (is_of_slot n h ≡ true)) (λ h. h.channel.slot ≡ n) (channels_of now n)
-      (λ h x. same_number h.channel.slot n x.1) (kept_each (is_of_slot n) now.members)
+      (λ h x. eqb-true h.channel.slot n x.1) (kept_each (is_of_slot n) now.members)
 
   own_found : (n : ℕ) (topic : List ℕ) → Maybe (λ (h : Member). h.channel.slot ≡ n) (channel_on now n topic)
   own_found n topic = find_of (λ (h : Member). h.channel.slot ≡ n) (λ m. is_on topic m.channel) (channels_of now n) (own_channels n)
@@ -200,7 +196,7 @@ module _ (now : Now) (slot : ℕ) where
       all_append (Mild slot b) (tell_if ch.ack ch.slot (reply_ok ch.join_ref m no_members)) (map (broadcast_part m.payload) (filter gets_it now.members))
       (mild_tell_if b ch.ack ch.slot (reply_ok ch.join_ref m no_members) own)
       (all_map_of (Mild slot b) (λ h. Among now.members h × (gets_it h ≡ true)) (broadcast_part m.payload) (filter gets_it now.members)
-      (λ h x e. r h x.0 (same_number h.channel.slot slot e) refl) (kept_each gets_it now.members))
+      (λ h x e. r h x.0 (eqb-true h.channel.slot slot e) refl) (kept_each gets_it now.members))
 
   mild_result : (b : Bool) (n : ℕ) (gone : List ℕ) (m : Message) (k : Checked Channel) → IsMade now n m.topic k → MaySay b n
       → AllOf (Mild slot b) (join_result_parts now n gone m k)
@@ -294,7 +290,7 @@ module _ (now : Now) (slot : ℕ) where
     mild_posting b p r =
         let gets_it : Member → Bool = λ h. is_on (channel_topic p) h.channel in
         all_map_of (Mild slot b) (λ h. Among now.members h × (gets_it h ≡ true)) (broadcast_part (posted_payload p)) (filter gets_it now.members)
-        (λ h x e. r h x.0 (same_number h.channel.slot slot e) refl) (kept_each gets_it now.members)
+        (λ h x e. r h x.0 (eqb-true h.channel.slot slot e) refl) (kept_each gets_it now.members)
 
     pub mild_post : (b : Bool) (tables : List (List Row)) (claims : Claims) (ps : List Posting) → Remains b []
         → AllOf (Mild slot b) (post_parts c s now tables claims ps)
@@ -318,7 +314,7 @@ module _ (now : Now) (slot : ℕ) where
         let to_all : Change → List Part = change_parts_to_all c s subs tables views in
         let heard : AllOf (λ (to : ChannelView). MaySay b to.slot) views =
         all_map_of (λ (to : ChannelView). MaySay b to.slot) (Among now.members) view_of now.members
-        (λ h here e. r h here (same_number h.channel.slot slot e) refl) (all_themselves now.members) in
+        (λ h here e. r h here (eqb-true h.channel.slot slot e) refl) (all_themselves now.members) in
         all_flat_of (Mild slot b) (Among changes) to_all changes
         (λ ch k. elim (is_truncate ch.verb) as
         (λ t. AllOf (Mild slot b) (elim t [ true ↦ [] | false ↦ flat_map (change_parts_to c s subs tables ch) views ])) [

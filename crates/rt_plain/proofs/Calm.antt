@@ -4,6 +4,7 @@ use Rattle.std.specs.Prelude.{⊤, ◌==◌, nat_le}
 use Rattle.std.specs.List.{flat_map}
 use Rattle.std.proofs.lemmas.Bool.Decides.{eqb_tells}
 use Rattle.std.proofs.lemmas.List.{drop_all}
+use Rattle.std.proofs.lemmas.Bool.{and_parts}
 use Rattle.rt_value.proofs.Plain.{AllOf, all_append, all_map}
 use Rattle.rt_catalog.specs.declared.catalog.Catalog.{Catalog}
 use Rattle.rt_entry.specs.declared.input.Settings.{Settings}
@@ -16,7 +17,8 @@ use Rattle.rt_entry.specs.Machine.{Slot, Lane, World, Placed, Outcome, done, emp
 use Rattle.rt_script.specs.Running.{every_lane, round, does_nothing, Drains, still, again}
 use Rattle.rt_laws.proofs.Lists.{drop_within}
 use Rattle.rt_laws.proofs.Good.{IsGood, with_all, step_good}
-use Rattle.rt_laws.proofs.Untouched.{and_right, le_from}
+use Rattle.rt_laws.proofs.Untouched.{le_from}
+use Rattle.rt_laws.proofs.Exactly.{run_append}
 
 -- what a round does with a slot
 abbrev pub pair_of : ℕ → List Step
@@ -86,7 +88,7 @@ module _ (c : Catalog) (s : Settings) (room : 0 < s.capacity) where
   -- a calm slot has room
   pub has_room : (x : Slot) (i : Item) → Calm x → is_full_for c s x i ≡ true → ⊥
   has_room x i a e =
-      let t : nat_le s.capacity (messages_in (outbox x)) ≡ true = and_right (is_message i) (nat_le s.capacity (messages_in (outbox x))) e in
+      let t : nat_le s.capacity (messages_in (outbox x)) ≡ true = (and_parts (is_message i) (nat_le s.capacity (messages_in (outbox x))) e).1 in
       let u : nat_le s.capacity 0 ≡ true = ap (λ is. nat_le s.capacity (messages_in is)) (sym (calm_outbox x a)) ∙ t in
       let le = le_from s.capacity 0 u in
       absurd (omega arith)
@@ -181,11 +183,6 @@ module _ (c : Catalog) (s : Settings) (room : 0 < s.capacity) where
       let last = (step_of c s mid (Pop n)).1 in
       let r = pair_keeps v n h.calm in
       pair_run slots w last (record { calm = r.0; same = same_then w v last h.same r.1; good = step_good c s mid (Pop n) (step_good c s v (Push n) h.good) })
-
-  run_append : (xs ys : List Step) (w : World) → run c s (xs ++ ys) w ≡ run c s ys (run c s xs w)
-  unfolding run
-  run_append [] ys w = refl
-  run_append (x ∷ xs) ys w = run_append xs ys (step_of c s w x).1
 
   abbrev lane_steps : List Step
   lane_steps = map Send (every_lane c s) ++ map Work (every_lane c s)

@@ -3,6 +3,7 @@ use Rattle.std.proofs.Common.{◌≡◌, ℕ, zero, suc, ◌+◌, ◌-◌, ◌<�
 use Rattle.std.specs.Prelude.{◌==◌, ◌≢◌}
 use Rattle.std.specs.List.{flat_map, list_any, sum_by}
 use Rattle.std.proofs.lemmas.List.Sums.{sum_by-cons, sum_by-le-sum_by}
+use Rattle.std.proofs.lemmas.Bool.{not-false}
 use Rattle.rt_value.proofs.Among.{Among}
 use Rattle.rt_value.proofs.Plain.{AllOf, all_append, all_map_of, all_themselves}
 use Rattle.rt_catalog.specs.declared.catalog.Catalog.{Catalog}
@@ -58,10 +59,6 @@ one_to_pop rest given popped lt = omega arith
 placed_long : (n o : ℕ) (xs : List Item) → length (placed_from n o xs) ≡ length xs
 placed_long n o [] = refl
 placed_long n o (x ∷ xs) = ap suc (placed_long (n + 1) (opening_after x o) xs)
-
-true_of : (b : Bool) → not b ≡ false → b ≡ true
-true_of true e = refl
-true_of false e = absurd (cc)
 
 module _ (c : Catalog) (s : Settings) where
   -- what is left for a lane to send and to work, and for a slot to take, to give and to pop
@@ -242,7 +239,7 @@ module _ (c : Catalog) (s : Settings) where
   behind_round : (w : World) → IsGood c s w → (left (next w) < left w → DrainEnds (next w)) → (b : Bool) → does_nothing c s w ≡ b → DrainEnds w
   behind_round w g rest true e = (next w, still e, run_good c s (round c s) w g)
   behind_round w g rest false e =
-      let something = true_of (list_any is_done (outcomes c s (round c s) w)) e in
+      let something = not-false (list_any is_done (outcomes c s (round c s) w)) e in
       let found = rest ((all_lessen (round c s) w round_is g).1 something) in
       (found.0, again e found.1, found.2)
 

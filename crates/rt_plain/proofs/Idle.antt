@@ -4,6 +4,7 @@ use Rattle.std.specs.Prelude.{⊤, ◌==◌}
 use Rattle.std.specs.List.{flat_map, list_any, range_with_len}
 use Rattle.std.proofs.lemmas.Bool.Decides.{eqb_tells}
 use Rattle.std.proofs.lemmas.Nat.{mod_below}
+use Rattle.std.proofs.lemmas.Bool.{eqb-true, not-true, or_parts}
 use Rattle.rt_value.proofs.Among.{Among, among_left, among_right, map_among}
 use Rattle.rt_value.proofs.Plain.{AllOf, all_append, all_map, all_flat, all_among}
 use Rattle.rt_catalog.specs.declared.catalog.Catalog.{Catalog}
@@ -19,20 +20,11 @@ use Rattle.rt_laws.proofs.Lists.{flat_among}
 use Rattle.rt_laws.proofs.Given.{shown_uncut}
 use Rattle.rt_laws.proofs.Good.{IsGood, good_serves}
 use Rattle.rt_plain.proofs.Calm.{CalmWorld, by_test, pair_of, has_room}
-use Rattle.rt_entry.proofs.Shapes.{same_number}
-use Rattle.rt_laws.proofs.Untouched.{false_of}
-
-or_parts : (a b : Bool) → (a || b) ≡ false → (a ≡ false) × (b ≡ false)
-or_parts true b e = absurd (cc)
-or_parts false b e = (refl, e)
-
-range_among : (k n l : ℕ) → k ≤ l → l < k + n → Among (range_with_len k n) l
-range_among k zero l a b = absurd (omega arith)
-range_among k (suc n) l a b = elim (eqb_tells k l) [ inl t ↦ inl t.1 | inr t ↦ let ne = t.1 in inr (range_among (k + 1) n l (omega arith) (omega arith)) ]
+use Rattle.rt_catalog.proofs.Closed.{in_range}
 
 slot_among : (slot : ℕ) → slot < slot_count → Among every_slot slot
 unfolding every_slot
-slot_among slot lt = range_among 0 slot_count slot (omega arith) (omega arith)
+slot_among slot lt = in_range 0 slot_count slot (omega arith) (omega arith)
 
 abbrev Idle : World → Outcome × World → Type 0
 Idle w r = is_done r.0 ≡ false → r.1 ≡ w
@@ -61,14 +53,14 @@ module _ (c : Catalog) (s : Settings) (room : 0 < s.capacity) where
       let P : Outcome × World → Type 0 = λ r. is_done r.0 ≡ false → (r.1 ≡ w) × ((x.sent ≡ length (lane_marks c s w.journal l)) ⊎ (x.sent - x.worked ≡ s.lane)) in
       let y : Lane = record x { sent = x.sent + 1 } in
       by_test P (x.sent == length (lane_marks c s w.journal l)) (empty, w) (elim (x.sent - x.worked == s.lane) [ true ↦ (full, w) | false ↦ (done, with_lane w l y) ])
-      (λ t f. (refl, inl (same_number x.sent (length (lane_marks c s w.journal l)) t)))
-      (λ t. by_test P (x.sent - x.worked == s.lane) (full, w) (done, with_lane w l y) (λ u f. (refl, inr (same_number (x.sent - x.worked) s.lane u))) (λ u f. absurd (let k : true ≡ false = f in cc))) e
+      (λ t f. (refl, inl (eqb-true x.sent (length (lane_marks c s w.journal l)) t)))
+      (λ t. by_test P (x.sent - x.worked == s.lane) (full, w) (done, with_lane w l y) (λ u f. (refl, inr (eqb-true (x.sent - x.worked) s.lane u))) (λ u f. absurd (let k : true ≡ false = f in cc))) e
 
   work_idle : (w : World) (l : ℕ) (x : Lane) → is_done (work w l x).0 ≡ false → ((work w l x).1 ≡ w) × (x.worked ≡ x.sent)
   work_idle w l x e =
       let P : Outcome × World → Type 0 = λ r. is_done r.0 ≡ false → (r.1 ≡ w) × (x.worked ≡ x.sent) in
       by_test P (x.worked == x.sent) (empty, w) (done, with_lane w l (record x { worked = x.worked + 1 }))
-      (λ t f. (refl, same_number x.worked x.sent t)) (λ t f. absurd (let k : true ≡ false = f in cc)) e
+      (λ t f. (refl, eqb-true x.worked x.sent t)) (λ t f. absurd (let k : true ≡ false = f in cc)) e
 
   -- a step that isn't done changes nothing
   idle : (w : World) (x : Step) → Makes x → CalmWorld w → Idle w (step_of c s w x)
@@ -106,15 +98,15 @@ module _ (c : Catalog) (s : Settings) (room : 0 < s.capacity) where
 
   -- in such a round each step was idle
   idle_round : (w : World) → CalmWorld w → does_nothing c s w ≡ true → (x : Step) → Among (round c s) x → IsIdle w x
-  idle_round w a e x h = all_among (IsIdle w) (round c s) x (all_idle (round c s) w all_make a (false_of (list_any is_done (outcomes c s (round c s) w)) e)) h
+  idle_round w a e x h = all_among (IsIdle w) (round c s) x (all_idle (round c s) w all_make a (not-true (list_any is_done (outcomes c s (round c s) w)) e)) h
 
   -- and it leaves the world
   pub round_idle : (w : World) → CalmWorld w → does_nothing c s w ≡ true → run c s (round c s) w ≡ w
-  round_idle w a e = run_idle (round c s) w all_make a (all_idle (round c s) w all_make a (false_of (list_any is_done (outcomes c s (round c s) w)) e))
+  round_idle w a e = run_idle (round c s) w all_make a (all_idle (round c s) w all_make a (not-true (list_any is_done (outcomes c s (round c s) w)) e))
 
   module _ (w : World) (a : CalmWorld w) (e : does_nothing c s w ≡ true) (some : 0 < s.workers) (wide : 0 < s.lane) where
     lane_among : (l : ℕ) → l < s.workers → Among (every_lane c s) l
-    lane_among l lt = range_among 0 s.workers l (omega arith) (omega arith)
+    lane_among l lt = in_range 0 s.workers l (omega arith) (omega arith)
 
     sent_all : (l : ℕ) → l < s.workers → ((w.lanes l).sent ≡ length (lane_marks c s w.journal l)) ⊎ ((w.lanes l).sent - (w.lanes l).worked ≡ s.lane)
     unfolding step_of

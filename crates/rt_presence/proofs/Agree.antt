@@ -7,6 +7,7 @@ use Rattle.std.proofs.lemmas.List.Elements.{filter-append}
 use Rattle.std.specs.Ordering.{is_lt}
 use Rattle.std.specs.Str.{bytes_eq}
 use Rattle.std.proofs.lemmas.Bool.Decides.{Decides-eqb}
+use Rattle.std.proofs.lemmas.Bool.{not-true}
 use Rattle.rt_value.proofs.Among.{Among, among_filter}
 use Rattle.rt_value.proofs.Plain.{all_themselves, all_weaker, filter_alike, filter_map_swap, filter_and, filter_same, and_swap}
 use Rattle.rt_value.proofs.Moves.{Moves, none, skip, swap, then_to, moves_same, moves_map, moves_filter, moves_back, moves_middle, permuted}
@@ -18,10 +19,9 @@ use Rattle.rt_presence.specs.Trees.{Held, shown, on_topic, difference_tree, join
 use Rattle.rt_presence.specs.Calls.{Call, tracks, ends, after_calls, is_by}
 use Rattle.rt_presence.specs.Reading.{reference_of, is_among, after_difference}
 use Rattle.rt_presence.specs.Client.{answered, client_view, IsAfter, AreNumbered, ClientsAgree}
-use Rattle.rt_presence.proofs.Orders.{of_place, at_place}
+use Rattle.rt_presence.proofs.Orders.{of_place, at_place, same_bool}
 use Rattle.rt_presence.proofs.Places.{none_found}
-use Rattle.rt_presence.proofs.Stands.{put_only, only_stay, Put, flip, same_bool}
-use Rattle.rt_presence.proofs.Places.{not_true}
+use Rattle.rt_presence.proofs.Stands.{put_only, only_stay, Put, flip}
 use Rattle.rt_presence.proofs.ReadAgain.{read_again, reference_is, same_text, difference_read}
 
 abbrev IsSame : Standing → Standing → Bool
@@ -49,7 +49,7 @@ module _ (t : Standing) (S : List Standing) (old : Good S) (n : number t < 2 ^ 6
   others = without_channel S t.0.topic t.0.channel
 
   was : (x : Standing) → Among others x → Among S x × (IsSame t x ≡ false)
-  was x h = let r = among_filter (λ u. not (IsSame t u)) S x h in (r.0, not_true (IsSame t x) r.1)
+  was x h = let r = among_filter (λ u. not (IsSame t u)) S x h in (r.0, not-true (IsSame t x) r.1)
 
   small_at : (x : Standing) → (t ≡ x) ⊎ Among others x → number x < 2 ^ 64
   small_at x (inl e) = let P : Standing → Type 0 = λ y. number y < 2 ^ 64 in subst P e n
@@ -88,7 +88,7 @@ good (ends on by ∷ before) n = good_without (λ x. not (is_of on by x)) (after
 
 -- who leaves
 
-or_none : (b : Bool) → (b || false) ≡ b
+pub or_none : (b : Bool) → (b || false) ≡ b
 or_none true = refl
 or_none false = refl
 
@@ -131,7 +131,7 @@ module _ (S : List Standing) (ok : Good S) (p : Place) where
 alike : {A : Type 0} (p q : A → Bool) (xs : List A) → ((x : A) → Among xs x → p x ≡ q x) → filter p xs ≡ filter q xs
 alike p q xs f = filter_alike p q xs (all_weaker (Among xs) (λ x. p x ≡ q x) xs f (all_themselves xs))
 
-commute : {A : Type 0} (p q : A → Bool) (xs : List A) → filter p (filter q xs) ≡ filter q (filter p xs)
+pub commute : {A : Type 0} (p q : A → Bool) (xs : List A) → filter p (filter q xs) ≡ filter q (filter p xs)
 commute p q xs = sym (filter_and p q xs) ∙ filter_same (λ x. q x && p x) (λ x. p x && q x) (λ x. and_swap (q x) (p x)) xs ∙ filter_and q p xs
 
 all_true : {A : Type 0} (xs : List A) → filter (λ x. true) xs ≡ xs

@@ -5,6 +5,7 @@ use Rattle.std.specs.BTreeMap.{insert_entry, is_at}
 use Rattle.std.specs.Ordering.{is_eq}
 use Rattle.std.proofs.lemmas.Cmp.{tied_itself}
 use Rattle.std.proofs.lemmas.Map.{none_passes_from_lookup}
+use Rattle.std.proofs.lemmas.Bool.{not-true}
 use Rattle.rt_value.proofs.Plain.{AllOf, all_filter, all_every}
 use Rattle.rt_json.specs.declared.tree.Json.{Json}
 use Rattle.rt_presence.specs.declared.tracks.Track.{Track}
@@ -13,7 +14,7 @@ use Rattle.rt_presence.specs.Tracks.{Standing, track_cmp, place_cmp, put, withou
 use Rattle.rt_presence.specs.Index.{IsIndexed, place_of, value_at}
 use Rattle.rt_presence.proofs.Entries.{IsRising, Updates, without_key}
 use Rattle.rt_presence.proofs.Orders.{track_exact, place_total, is_eq_true}
-use Rattle.rt_presence.proofs.Places.{not_true, all_kept, all_stay, Found, here, nobody, all_told, taken}
+use Rattle.rt_presence.proofs.Places.{all_kept, all_stay, Found, here, nobody, all_told, taken}
 use Rattle.rt_presence.proofs.Places.{all_put, found_without, found_with, owned, inserted_is, find_here}
 use Rattle.rt_presence.proofs.Puts.{itself, inserted_put, removed_put}
 
@@ -76,7 +77,7 @@ module _ (tracks : List Standing) (places : List (Place × Track)) (p : Place) (
   put_indexed t j after after_places own is updates new more =
       let at : Standing → Bool = here places p in
       let away : AllOf (λ u. here places p u ≡ false) others =
-      all_kept (λ u. not (at u)) (λ _. ⊤) (λ u. at u ≡ false) tracks (λ u h _. not_true (at u) h) (all_every (λ _. ⊤) tracks (λ _. tt)) in
+      all_kept (λ u. not (at u)) (λ _. ⊤) (λ u. at u ≡ false) tracks (λ u h _. not-true (at u) h) (all_every (λ _. ⊤) tracks (λ _. tt)) in
       let still_found : AllOf (Found places) others = all_filter (Found places) (λ u. not (at u)) tracks index.found in
       record {
         found = subst (AllOf (Found after_places)) (sym is) (found_with places p after_places (t, j) others own updates away still_found);

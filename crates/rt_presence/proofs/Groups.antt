@@ -12,6 +12,7 @@ use Rattle.std.specs.Cmp.Lexicographic.{nat_list_cmp_total}
 use Rattle.std.proofs.lemmas.List.{reverse-append, reverse-reverse}
 use Rattle.std.proofs.lemmas.Map.Text.{is_eq-slice_cmp}
 use Rattle.std.proofs.lemmas.Slice.Eq.{bytes_eq-Decides}
+use Rattle.std.proofs.lemmas.Bool.{or_parts}
 use Rattle.rt_value.specs.Ordered.{inserted_by, inserted, in_order}
 use Rattle.rt_value.proofs.Plain.{AllOf, all_weaker, map_map, map_same}
 use Rattle.rt_value.proofs.Keys.{by_bytes, same, IsIn, Rises, Above, apart, tied, ordered_rises, ordered_has}
@@ -94,10 +95,6 @@ module _ (h : Held) (hs : List Held) where
 
 -- what is found at a key
 module _ (hs : List Held) (k : List ℕ) where
-  or_false : (a b : Bool) → (a || b) ≡ false → (a ≡ false) × (b ≡ false)
-  or_false true b e = absurd (cc)
-  or_false false b e = (refl, e)
-
   not_there : (h : Held) (ks : List (List ℕ)) (b : Bool) → bytes_eq h.0 k ≡ b → IsIn ks h.0 → list_any (same k) ks ≡ false → b ≡ false
   not_there h ks true e i none =
       absurd (let bad : true ≡ false = sym i ∙ ap (λ (x : List ℕ). list_any (same x) ks) ((bytes_eq-Decides h.0 k).0 e) ∙ none in cc)
@@ -110,7 +107,7 @@ module _ (hs : List Held) (k : List ℕ) where
   none_found : (ks : List (List ℕ)) → list_any (same k) ks ≡ false → lookup (is_at (by_bytes k)) (backs hs ks) ≡ None
   none_found [] none = refl
   none_found (l ∷ ls) none =
-      let parts = or_false (same k l) (list_any (same k) ls) none in
+      let parts = or_parts (same k l) (list_any (same k) ls) none in
       ap (λ b. cond b (Some (reverse (under_key hs l))) (lookup (is_at (by_bytes k)) (backs hs ls))) (is_eq-slice_cmp k l ∙ parts.0) ∙ none_found ls parts.1
 
   some_at : (l : List ℕ) (ls : List (List ℕ)) (b : Bool) → same k l ≡ b → (list_any (same k) ls ≡ true → lookup (is_at (by_bytes k)) (backs hs ls) ≡ Some (reverse (under_key hs k)))

@@ -9,6 +9,7 @@ use Rattle.std.proofs.lemmas.Cmp.{nat_cmp_total, nat_list_cmp_total, on_total, t
 use Rattle.std.proofs.lemmas.Map.Lookups.{exact_unsigned, exact_bytes}
 use Rattle.std.proofs.lemmas.Bool.Decides.{eqb_tells}
 use Rattle.std.proofs.lemmas.Slice.Eq.{bytes_eq-Decides}
+use Rattle.std.proofs.lemmas.Bool.{and_parts, eqb-true, eq-eqb}
 use Rattle.rt_presence.specs.declared.tracks.Track.{Track}
 use Rattle.rt_presence.specs.declared.tracks.Place.{Place}
 use Rattle.rt_presence.specs.Tracks.{Standing, track_cmp, place_cmp, track_at, is_of}
@@ -50,28 +51,18 @@ is_eq_true Less h = absurd (cc)
 is_eq_true Equal h = refl
 is_eq_true Greater h = absurd (cc)
 
-both_true : (a b : Bool) → (a && b) ≡ true → (a ≡ true) × (b ≡ true)
-both_true true b h = (refl, h)
-both_true false b h = absurd (cc)
-
-same_number : (n m : ℕ) → (n == m) ≡ true → n ≡ m
-same_number n m e = elim (eqb_tells n m) [ inl t ↦ t.1 | inr t ↦ absurd (let k : true ≡ false = sym e ∙ t.0 in cc) ]
-
-number_itself : (n m : ℕ) → n ≡ m → (n == m) ≡ true
-number_itself n m e = elim (eqb_tells n m) [ inl t ↦ t.0 | inr t ↦ absurd (t.1 e) ]
-
 -- a track is of a channel on a topic where that is its place
 pub of_place : (p : Place) (t : Standing) → is_of p.topic p.channel t ≡ true → place_of t.0 ≡ p
 of_place p t h =
-    let parts = both_true _ _ h in
-    ap (λ x. place_at x t.0.channel) ((bytes_eq-Decides t.0.topic p.topic).0 parts.0) ∙ ap (place_at p.topic) (same_number t.0.channel p.channel parts.1)
+    let parts = and_parts _ _ h in
+    ap (λ x. place_at x t.0.channel) ((bytes_eq-Decides t.0.topic p.topic).0 parts.0) ∙ ap (place_at p.topic) (eqb-true t.0.channel p.channel parts.1)
 
 pub at_place : (p : Place) (t : Standing) → place_of t.0 ≡ p → is_of p.topic p.channel t ≡ true
 at_place p t e =
     ap (λ b. b && (t.0.channel == p.channel)) ((bytes_eq-Decides t.0.topic p.topic).1 (ap (λ (q : Place). q.topic) e))
-    ∙ number_itself t.0.channel p.channel (ap (λ (q : Place). q.channel) e)
+    ∙ eq-eqb t.0.channel p.channel (ap (λ (q : Place). q.channel) e)
 
-same_bool : (a b : Bool) → (a ≡ true → b ≡ true) → (b ≡ true → a ≡ true) → a ≡ b
+pub same_bool : (a b : Bool) → (a ≡ true → b ≡ true) → (b ≡ true → a ≡ true) → a ≡ b
 same_bool true b f g = sym (f refl)
 same_bool false true f g = g refl
 same_bool false false f g = refl

@@ -7,6 +7,7 @@ use Rattle.std.specs.BTreeMap.{insert_entry, is_at}
 use Rattle.std.specs.List.Sorted.{IsStrictlySortedBy}
 use Rattle.std.specs.Map.{keys_of}
 use Rattle.std.specs.Ordering.{is_eq, is_lt, match_ordering}
+use Rattle.std.proofs.lemmas.Bool.{not-true}
 use Rattle.rt_value.proofs.Plain.{AllOf, all_weaker}
 use Rattle.rt_json.specs.declared.tree.Json.{Json}
 use Rattle.rt_presence.specs.declared.tracks.Track.{Track}
@@ -15,10 +16,6 @@ use Rattle.rt_presence.specs.Tracks.{Standing, track_cmp, place_cmp, is_of, put,
 use Rattle.rt_presence.specs.Index.{IsIndexed, place_of, value_at}
 use Rattle.rt_presence.proofs.Entries.{IsRising, Updates, without_key}
 use Rattle.rt_presence.proofs.Orders.{track_exact, place_exact, is_eq_true, of_place, at_place, of_is, told}
-
-pub not_true : (b : Bool) → not b ≡ true → b ≡ false
-not_true true h = absurd (cc)
-not_true false h = refl
 
 kept : {A : Type 0} (D : A → Type 0) (x : A) (xs : List A) (b : Bool) → (b ≡ true → D x) → AllOf D xs → AllOf D (cond b (x ∷ xs) xs)
 kept D x xs true f a = (f refl, a)
@@ -100,7 +97,7 @@ module _ (places : List (Place × Track)) (p : Place) where
 
   -- without the place the tracks of others are found
   pub found_without : (after : List (Place × Track)) (tracks : List Standing) → Updates place_cmp places after p None → AllOf (Found places) tracks → AllOf (Found after) (filter (λ t. not (here t)) tracks)
-  found_without after tracks updates a = all_kept (λ t. not (here t)) (Found places) (Found after) tracks (λ t h f. stays_found after None updates t (not_true (here t) h) f) a
+  found_without after tracks updates a = all_kept (λ t. not (here t)) (Found places) (Found after) tracks (λ t h f. stays_found after None updates t (not-true (here t) h) f) a
 
   pub all_put : (D : Standing → Type 0) (t : Standing) (us : List Standing) → D t → AllOf D us → AllOf D (put t us)
   all_put D t [] new a = (new, tt)

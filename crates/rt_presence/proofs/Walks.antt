@@ -84,10 +84,6 @@ unfolding IsStrictlySortedBy
 kept_rises p [] rising = tt
 kept_rises p (u ∷ us) rising = elim (p u) as (λ b. IsRising track_cmp (cond b (u ∷ filter p us) (filter p us))) [ true ↦ (behind_kept p u.0 us rising.0, kept_rises p us rising.1) | false ↦ kept_rises p us rising.1 ]
 
-pub told_true : (b : Bool) → not b ≡ false → b ≡ true
-told_true true h = refl
-told_true false h = absurd (cc)
-
 not_first : (o p : Ordering) → is_le (ordering_then o p) ≡ true → o ≡ Greater → ⊥
 not_first Less p h e = cc
 not_first Equal p h e = cc

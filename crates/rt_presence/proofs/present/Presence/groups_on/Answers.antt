@@ -1,5 +1,6 @@
 use Rattle.std.proofs.Common.{◌≡◌, [], ℕ, List, map, ap, sym, subst, ◌∙◌, true, false}
 use Rattle.std.specs.Str.{bytes_eq}
+use Rattle.std.proofs.lemmas.Bool.{not-true, not-false}
 use Rattle.rt_json.specs.declared.tree.Json.{Json}
 use Rattle.rt_presence.proofs.Entries.{IsRising, entries_from, range_from}
 use Rattle.rt_presence.specs.declared.tracks.Track.{Track}
@@ -7,8 +8,7 @@ use Rattle.rt_presence.specs.Tracks.{Standing, track_cmp}
 use Rattle.rt_presence.specs.Index.{least_on}
 use Rattle.rt_presence.specs.Trees.{shown, on_topic, put_last}
 use Rattle.rt_presence.proofs.Neighbours.{all_put, all_put_is}
-use Rattle.rt_presence.proofs.Walks.{Ahead, ahead_from, ahead_rest, on_from, goes_on, topic_ends, keys_rise, told_true}
-use Rattle.rt_presence.proofs.Places.{not_true}
+use Rattle.rt_presence.proofs.Walks.{Ahead, ahead_from, ahead_rest, on_from, goes_on, topic_ends, keys_rise}
 use Rattle.rt_presence.proofs.present.Presence.groups_on.Goals as goal
 use Rattle.rt_presence.proofs.present.Presence.groups_on.Goals.{in-None, in-Some+then-ne}
 
@@ -36,7 +36,7 @@ loop-track-preserved c =
     let behind : List Standing = c.next.new.self in
     let groups = c.loop-track.groups.items in
     let on : bytes_eq c.in-Some.track.now.topic topic ≡ true =
-    ap (λ (xs : List ℕ). bytes_eq xs topic) (sym c.get.ensures.bytes) ∙ ap (bytes_eq c.get.result.now) (sym c.get-in-loop-track.ensures.bytes) ∙ told_true _ (sym c.ne.ensures ∙ c.if-ne.false) in
+    ap (λ (xs : List ℕ). bytes_eq xs topic) (sym c.get.ensures.bytes) ∙ ap (bytes_eq c.get.result.now) (sym c.get-in-loop-track.ensures.bytes) ∙ not-false _ (sym c.ne.ensures ∙ c.if-ne.false) in
     record {
       ahead = ahead_rest topic here behind (subst (Ahead topic) c.in-Some.ensures.steps c.loop-track.invariant.ahead);
       all =
@@ -58,7 +58,7 @@ returns c =
       | in-Some+then-ne w ↦
           let here : Standing = (w.in-Some.track.now, w.in-Some.tree.now) in
           let off : bytes_eq w.in-Some.track.now.topic topic ≡ false =
-          ap (λ (xs : List ℕ). bytes_eq xs topic) (sym w.get.ensures.bytes) ∙ ap (bytes_eq w.get.result.now) (sym w.get-in-loop-track.ensures.bytes) ∙ not_true _ (sym w.ne.ensures ∙ w.if-ne.true) in
+          ap (λ (xs : List ℕ). bytes_eq xs topic) (sym w.get.ensures.bytes) ∙ ap (bytes_eq w.get.result.now) (sym w.get-in-loop-track.ensures.bytes) ∙ not-true _ (sym w.ne.ensures ∙ w.if-ne.true) in
           ap (on_topic topic) w.in-Some.ensures.steps ∙ topic_ends topic here c.next.new.self (subst (Ahead topic) w.in-Some.ensures.steps c.loop-track.invariant.ahead) off
     ] in
     ap (λ (ts : List Standing). all_put (map shown ts) groups) (sym over)
