@@ -55,14 +55,14 @@ module _ (c : Catalog) (s : Settings) where
       elim (nat_le ch.number (length before)) [ true ↦ told_since ch before ++ filter_map (said_to ch) (answers c s before i) | false ↦ [] ]
 
   -- what is present on a topic
-  abbrev pub present_on : List Input → List ℕ → List Track
-  present_on journal topic = filter (λ t. bytes_eq t.topic topic) (present_at (story c s journal))
+  abbrev pub present_behind : List Input → List ℕ → List Track
+  present_behind journal topic = filter (λ t. bytes_eq t.topic topic) (present_at (story c s journal))
 
   -- Each member with presence holds what is present on its topic. A state is in key order and the tracks in journal order, so it is equal up to order.
   abbrev pub ClientsHold : List Input → Type 0
   ClientsHold journal =
       (ch : Channel) → Contains (members_at (story c s journal)) ch → ch.presence ≡ true
-      → IsPermutation (client_view [] (told_since ch journal)) (map shown_meta (present_on journal ch.topic))
+      → IsPermutation (client_view [] (told_since ch journal)) (map shown_meta (present_behind journal ch.topic))
 
   -- A client takes metas away by `phx_ref`, the number of the track's input in decimal, and that tells numbers apart below 2 ^ 64: so the journal is
   -- shorter.
@@ -129,7 +129,7 @@ module _ (c : Catalog) (s : Settings) where
     pub front : List Item
     pub whole : given ≡ front ++ as_items o.version (said_since ch before)
     pub holds : (held : List Held)
-        → IsPermutation (client_view held (messages_to ch (said_since ch before))) (map shown_meta (present_on c s before ch.topic))
+        → IsPermutation (client_view held (messages_to ch (said_since ch before))) (map shown_meta (present_behind c s before ch.topic))
 
   -- After any steps and for a place of the journal that they make: where a slot was given, of its opening of some number and up to some place of what it
   -- was given, exactly what is due of the opening that it has there. (So that opening isn't cut before. What was given of it later is for later places.)
@@ -170,7 +170,7 @@ module _ (c : Catalog) (s : Settings) where
       → (run c s steps start).journal ≡ later ++ before → AllByRecursion (IsOfLines c) before
       → IsUpTo c s (given_of c s steps ch.slot number place) before ch o → IsReader (suc payload_levels) read
       → IsPermutation (client_view [] (messages_on read o.version ch (given_of c s steps ch.slot number place)))
-      (map shown_meta (present_on c s before ch.topic))
+      (map shown_meta (present_behind c s before ch.topic))
 
   -- So it is of the last opening and of all that was given of it.
   abbrev pub ReadersAgree : Type 0
@@ -180,4 +180,4 @@ module _ (c : Catalog) (s : Settings) where
       → (run c s steps start).journal ≡ later ++ before → AllByRecursion (IsOfLines c) before
       → IsUpTo c s (last_items (given_after c s steps ch.slot)) before ch o → IsReader (suc payload_levels) read
       → IsPermutation (client_view [] (messages_on read o.version ch (last_items (given_after c s steps ch.slot))))
-      (map shown_meta (present_on c s before ch.topic))
+      (map shown_meta (present_behind c s before ch.topic))

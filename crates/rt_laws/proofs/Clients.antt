@@ -21,7 +21,7 @@ use Rattle.rt_entry.specs.Story.{Now, now_of, has, departed_in, present_at, tabl
 use Rattle.rt_entry.specs.Messages.{presence_state, shown_meta}
 use Rattle.rt_entry.specs.Doings.{opening_in, doings, story}
 use Rattle.rt_entry.specs.Answers.{answers_by}
-use Rattle.rt_entry.specs.Presence.{client_view, present_on}
+use Rattle.rt_entry.specs.Presence.{client_view, present_behind}
 use Rattle.rt_entry.specs.After.{tracks_after, after, done_by}
 use Rattle.rt_laws.specs.Departures.{heard}
 use Rattle.rt_laws.specs.Follows.{IsOutside}
@@ -94,17 +94,17 @@ module _ (c : Catalog) (s : Settings) where
   pub clients_follow : (journal : List Input) (i : Input) (h : Member) → length journal < 2 ^ 64 → IsNoStop i
       → Contains (members_of_journal c s journal) h → h.channel.presence ≡ true
       → has h.channel.number (departed_in (done_by c s journal i)) ≡ false
-      → IsPermutation (client_view [] (presence_state h.channel (present_on c s journal h.channel.topic) ∷ heard c s journal i h.channel))
-      (map shown_meta (present_on c s (i ∷ journal) h.channel.topic))
+      → IsPermutation (client_view [] (presence_state h.channel (present_behind c s journal h.channel.topic) ∷ heard c s journal i h.channel))
+      (map shown_meta (present_behind c s (i ∷ journal) h.channel.topic))
   unfolding answers_by now_of
   clients_follow journal i h short k known enabled stays =
       let st = story c s journal in
       let sh = story_shaped c s journal in
       let here = from_contains (members_in st) h known in
-      let ts = present_on c s journal h.channel.topic in
+      let ts = present_behind c s journal h.channel.topic in
       let on : Track → Bool = λ t. bytes_eq t.topic h.channel.topic in
       let state = metas_in (metas_tree (map shown_meta ts)) in
       let moved = held_after journal i h short k here enabled state stays (read_again (map shown_meta ts)) in
       let P : List Track → Type 0 = λ us. Moves (client_view state (heard c s journal i h.channel)) (map shown_meta (filter on us)) in
-      permuted (client_view state (heard c s journal i h.channel)) (map shown_meta (present_on c s (i ∷ journal) h.channel.topic))
+      permuted (client_view state (heard c s journal i h.channel)) (map shown_meta (present_behind c s (i ∷ journal) h.channel.topic))
       (subst P (sym (tracks_next journal i)) moved)

@@ -10,7 +10,7 @@ use Rattle.rt_entry.specs.Story.{members_at}
 use Rattle.rt_entry.specs.Doings.{story}
 use Rattle.rt_entry.specs.Machine.{start, run}
 use Rattle.rt_entry.specs.Messages.{shown_meta}
-use Rattle.rt_entry.specs.Presence.{client_view, present_on, last_items, given_after, given_of, IsUpTo, HoldsPresent, TakenClientsAgree, OpeningsAgree, GivenClientsAgree}
+use Rattle.rt_entry.specs.Presence.{client_view, present_behind, last_items, given_after, given_of, IsUpTo, HoldsPresent, TakenClientsAgree, OpeningsAgree, GivenClientsAgree}
 use Rattle.rt_entry.specs.declared.story.Opening.{Opening}
 use Rattle.rt_entry.specs.declared.story.Channel.{Channel}
 use Rattle.rt_entry.specs.declared.answer.Item.{Item}
@@ -36,7 +36,7 @@ module _ (c : Catalog) (s : Settings) where
   holds_given before ch o given short u =
       let here = from_contains (members_at (story c s before)) ch u.member in
       let d = due_since c s before ch o here u.opening in
-      let present = map shown_meta (present_on c s before ch.topic) in
+      let present = map shown_meta (present_behind c s before ch.topic) in
       record {
         front = d.0;
         whole = u.items ∙ d.1;

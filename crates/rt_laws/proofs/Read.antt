@@ -27,7 +27,7 @@ use Rattle.rt_entry.specs.declared.story.Channel.{Channel}
 use Rattle.rt_entry.specs.declared.answer.Item.{Item}
 use Rattle.rt_entry.specs.declared.answer.Item.TheVariants as item
 use Rattle.rt_entry.specs.Messages.{shown_meta}
-use Rattle.rt_entry.specs.Presence.{after_message, client_view, present_on, last_items, as_items, messages_to, message_in, messages_on, IsReader, said_since, given_after, given_of, OpeningReadersAgree, ReadersAgree}
+use Rattle.rt_entry.specs.Presence.{after_message, client_view, present_behind, last_items, as_items, messages_to, message_in, messages_on, IsReader, said_since, given_after, given_of, OpeningReadersAgree, ReadersAgree}
 use Rattle.rt_entry.specs.Readable.{payload_levels, IsReadable, IsOfLines}
 use Rattle.rt_laws.specs.Told.{AnswersAreReadable}
 use Rattle.rt_value.proofs.Plain.{AllOf, filter_map_swap}
@@ -176,14 +176,14 @@ opening_readers c s writes names few steps later before ch o number place read t
     let h = openings_agree c s few steps later before ch o number place taken u in
     let short = short_before c s few steps later before taken in
     agrees_at payload_levels read reader writes (given_of c s steps ch.slot number place) h.front (said_since c s ch before) ch o.version
-    (map shown_meta (present_on c s before ch.topic)) h.whole (said_fits c s names ch before short (all_lines_fit c before lines)) h.holds
+    (map shown_meta (present_behind c s before ch.topic)) h.whole (said_fits c s names ch before short (all_lines_fit c before lines)) h.holds
 
 pub readers_agree : (c : Catalog) (s : Settings) → IsWritten payload_levels → ReadersAgree c s
 readers_agree c s writes names few steps later before ch o read taken lines u reader =
     let h = given_agree c s few steps later before ch o taken u in
     let short = short_before c s few steps later before taken in
     agrees_at payload_levels read reader writes (last_items (given_after c s steps ch.slot)) h.front (said_since c s ch before) ch o.version
-    (map shown_meta (present_on c s before ch.topic)) h.whole (said_fits c s names ch before short (all_lines_fit c before lines)) h.holds
+    (map shown_meta (present_behind c s before ch.topic)) h.whole (said_fits c s names ch before short (all_lines_fit c before lines)) h.holds
 
 pub answers_readable : (c : Catalog) (s : Settings) → AnswersAreReadable c s
 answers_readable c s names before i slot m short lines there =

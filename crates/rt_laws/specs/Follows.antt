@@ -7,7 +7,7 @@ use Rattle.rt_entry.specs.declared.input.Settings.{Settings}
 use Rattle.rt_entry.specs.declared.story.Member.{Member}
 use Rattle.rt_entry.specs.Story.{has, departed_in}
 use Rattle.rt_entry.specs.Messages.{presence_state, shown_meta}
-use Rattle.rt_entry.specs.Presence.{client_view, present_on}
+use Rattle.rt_entry.specs.Presence.{client_view, present_behind}
 use Rattle.rt_entry.specs.After.{done_by}
 use Rattle.rt_laws.specs.Departures.{heard}
 use Rattle.rt_entry.specs.Members.{members_of_journal}
@@ -35,5 +35,5 @@ module _ (c : Catalog) (s : Settings) where
       (journal : List Input) (i : Input) (h : Member)
       → length journal < 2 ^ 64 → IsNoStop i
       → Contains (members_of_journal c s journal) h → h.channel.presence ≡ true → has h.channel.number (departed_in (done_by c s journal i)) ≡ false
-      → IsPermutation (client_view [] (presence_state h.channel (present_on c s journal h.channel.topic) ∷ heard c s journal i h.channel))
-      (map shown_meta (present_on c s (i ∷ journal) h.channel.topic))
+      → IsPermutation (client_view [] (presence_state h.channel (present_behind c s journal h.channel.topic) ∷ heard c s journal i h.channel))
+      (map shown_meta (present_behind c s (i ∷ journal) h.channel.topic))

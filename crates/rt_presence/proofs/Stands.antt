@@ -8,28 +8,28 @@ use Rattle.std.proofs.lemmas.Slice.Eq.{bytes_eq-Decides}
 use Rattle.std.proofs.lemmas.Bool.Decides.{Decides-eqb}
 use Rattle.std.proofs.lemmas.Bool.{or_from, or_parts, not-true}
 use Rattle.rt_value.proofs.Among.{Among, from_contains, to_contains, among_filter, filter_among}
-use Rattle.rt_presence.specs.Tracks.{Standing, track_cmp, is_of, put, without_channel}
+use Rattle.rt_presence.specs.Tracks.{Tracked, track_cmp, is_of, put, without_channel}
 use Rattle.rt_presence.specs.Index.{place_of}
 use Rattle.rt_presence.specs.Calls.{Call, tracks, ends, after_call, after_calls, is_by, Stands, CallsLeave}
 use Rattle.rt_presence.proofs.Orders.{of_place, at_place, same_bool}
 
-abbrev same : Standing → Standing → Bool
+abbrev same : Tracked → Tracked → Bool
 same t u = is_of t.0.topic t.0.channel u
 
 -- a track is put in, and the others stay
-put_in : (t : Standing) (us : List Standing) → Among (put t us) t
+put_in : (t : Tracked) (us : List Tracked) → Among (put t us) t
 put_in t [] = inl refl
 put_in t (u ∷ us) = elim (is_lt (track_cmp t.0 u.0)) as (λ b. Among (elim b [ true ↦ t ∷ u ∷ us | false ↦ u ∷ put t us ]) t) [ true ↦ inl refl | false ↦ inr (put_in t us) ]
 
-abbrev pub Put : Bool → Standing → Standing → List Standing → List Standing
+abbrev pub Put : Bool → Tracked → Tracked → List Tracked → List Tracked
 Put b t u us = elim b [ true ↦ t ∷ u ∷ us | false ↦ u ∷ put t us ]
 
-keeps_at : (t u x : Standing) (us : List Standing) (b : Bool) → (Among us x → Among (put t us) x) → Among (u ∷ us) x → Among (Put b t u us) x
+keeps_at : (t u x : Tracked) (us : List Tracked) (b : Bool) → (Among us x → Among (put t us) x) → Among (u ∷ us) x → Among (Put b t u us) x
 keeps_at t u x us true more h = inr h
 keeps_at t u x us false more (inl e) = inl e
 keeps_at t u x us false more (inr i) = inr (more i)
 
-put_keeps : (t : Standing) (us : List Standing) (x : Standing) → Among us x → Among (put t us) x
+put_keeps : (t : Tracked) (us : List Tracked) (x : Tracked) → Among us x → Among (put t us) x
 put_keeps t [] x h = absurd h
 put_keeps t (u ∷ us) x h = keeps_at t u x us (is_lt (track_cmp t.0 u.0)) (put_keeps t us x) h
 
@@ -37,21 +37,21 @@ back_in : {A B C : Type 0} → A ⊎ B → A ⊎ (C ⊎ B)
 back_in (inl a) = inl a
 back_in (inr b) = inr (inr b)
 
-only_at : (t u x : Standing) (us : List Standing) (b : Bool) → (Among (put t us) x → (t ≡ x) ⊎ Among us x) → Among (Put b t u us) x → (t ≡ x) ⊎ Among (u ∷ us) x
+only_at : (t u x : Tracked) (us : List Tracked) (b : Bool) → (Among (put t us) x → (t ≡ x) ⊎ Among us x) → Among (Put b t u us) x → (t ≡ x) ⊎ Among (u ∷ us) x
 only_at t u x us true more h = h
 only_at t u x us false more (inl e) = inr (inl e)
 only_at t u x us false more (inr i) = back_in (more i)
 
-pub put_only : (t : Standing) (us : List Standing) (x : Standing) → Among (put t us) x → (t ≡ x) ⊎ Among us x
+pub put_only : (t : Tracked) (us : List Tracked) (x : Tracked) → Among (put t us) x → (t ≡ x) ⊎ Among us x
 put_only t [] x h = h
 put_only t (u ∷ us) x h = only_at t u x us (is_lt (track_cmp t.0 u.0)) (put_only t us x) h
 
 -- of one channel and topic each is of the other's
-flip_at : (t u : Standing) (b : Bool) → same u t ≡ b → same t u ≡ false → b ≡ false
+flip_at : (t u : Tracked) (b : Bool) → same u t ≡ b → same t u ≡ false → b ≡ false
 flip_at t u true e f = absurd (let bad : true ≡ false = sym (at_place (place_of t.0) u (sym (of_place (place_of u.0) t e))) ∙ f in cc)
 flip_at t u false e f = refl
 
-pub flip : (t u : Standing) → same t u ≡ false → same u t ≡ false
+pub flip : (t u : Tracked) → same t u ≡ false → same u t ≡ false
 flip t u f = flip_at t u (same u t) refl f
 
 text_flip : (s t : List ℕ) → bytes_eq s t ≡ bytes_eq t s
@@ -60,19 +60,19 @@ text_flip s t = same_bool (bytes_eq s t) (bytes_eq t s) (λ e. (bytes_eq-Decides
 pub number_flip : (n m : ℕ) → (n == m) ≡ (m == n)
 number_flip n m = same_bool (n == m) (m == n) (λ e. (Decides-eqb m n).1 (sym ((Decides-eqb n m).0 e))) (λ e. (Decides-eqb n m).1 (sym ((Decides-eqb m n).0 e)))
 
-ends_flip : (on : List ℕ) (by : ℕ) (u : Standing) → is_of on by u ≡ (bytes_eq on u.0.topic && (by == u.0.channel))
+ends_flip : (on : List ℕ) (by : ℕ) (u : Tracked) → is_of on by u ≡ (bytes_eq on u.0.topic && (by == u.0.channel))
 ends_flip on by u = ap₂ (λ a b. a && b) (text_flip u.0.topic on) (number_flip u.0.channel by)
 
-module _ (u : Standing) where
+module _ (u : Tracked) where
   -- a call leaves a track of another channel or topic
-  others_stay : (c : Call) (before : List Standing) → is_by u.0.topic u.0.channel c ≡ false → Among before u → Among (after_call c before) u
+  others_stay : (c : Call) (before : List Tracked) → is_by u.0.topic u.0.channel c ≡ false → Among before u → Among (after_call c before) u
   others_stay (tracks t tree) before e h =
       put_keeps (t, tree) (without_channel before t.topic t.channel) u (filter_among (λ x. not (is_of t.topic t.channel x)) before u h (ap not (flip u (t, tree) e)))
   others_stay (ends on by) before e h = filter_among (λ x. not (is_of on by x)) before u h (ap not (ends_flip on by u ∙ e))
 
-  pub only_stay : (c : Call) (before : List Standing) → Among (after_call c before) u → (c ≡ tracks u.0 u.1) ⊎ (Among before u × (is_by u.0.topic u.0.channel c ≡ false))
+  pub only_stay : (c : Call) (before : List Tracked) → Among (after_call c before) u → (c ≡ tracks u.0 u.1) ⊎ (Among before u × (is_by u.0.topic u.0.channel c ≡ false))
   only_stay (tracks t tree) before h = elim (put_only (t, tree) (without_channel before t.topic t.channel) u h) [
-    | inl e ↦ inl (ap (λ (x : Standing). tracks x.0 x.1) e)
+    | inl e ↦ inl (ap (λ (x : Tracked). tracks x.0 x.1) e)
     | inr i ↦ let r = among_filter (λ x. not (is_of t.topic t.channel x)) before u i in inr (r.0, flip (t, tree) u (not-true (is_of t.topic t.channel u) r.1))
   ]
   only_stay (ends on by) before h = let r = among_filter (λ x. not (is_of on by x)) before u h in inr (r.0, sym (ends_flip on by u) ∙ not-true (is_of on by u) r.1)

@@ -1,11 +1,11 @@
 ghost use Rattle.std.specs.Prelude.{◌≡◌, [], None, Some, map, option_map, IfOk, OnOk, OnErr};
 ghost use Rattle.rt_presence.specs.Tracks.{track_of, without_channel, with_track, track_at, meta_of, joining, leaving};
 ghost use Rattle.rt_presence.specs.Index.{least_on};
-ghost use Rattle.rt_presence.specs.Trees.{shown, on_topic, state_tree, groups_of};
+ghost use Rattle.rt_presence.specs.Trees.{held_of, on_topic, state_tree, groups_of};
 
 use crate::differences::{Diff, Meta};
 use crate::maps::{Copies, Places, Tracks, copied, put, take};
-use crate::tracks::{Place, Track};
+use crate::tracks::{Place, TrackKey};
 use crate::trees::{Group, groups_tree, meta_object, put_last};
 use rt_json::Json;
 use rt_value::Text;
@@ -25,12 +25,12 @@ pub struct Presence {
 
 impl Model for Presence {
     ghost use Rattle.std.specs.Prelude.{List};
-    ghost use Rattle.rt_presence.specs.Tracks.{Standing};
+    ghost use Rattle.rt_presence.specs.Tracks.{Tracked};
     ghost use Rattle.rt_presence.specs.Index.{IsIndexed};
     ghost use Rattle.rt_json.specs.contracts.tree.Json as tree;
     ghost use Rattle.std.specs.Coded.{codes};
 
-    ghost Value = { List Standing };
+    ghost Value = { List Tracked };
 
     ghost coded = { Prim.hlevel (codes, tree.the_row.coded) };
 
@@ -64,7 +64,7 @@ impl Presence {
     }
 
     // The channel's track on the topic.
-    fn find(&self, place: &Place) -> Option<(&Track, &Json)>
+    fn find(&self, place: &Place) -> Option<(&TrackKey, &Json)>
         ensures { option_map (λ t. (t.0.now, t.1.now)) result ≡ track_of self.now place.now.topic place.now.channel }
     {
         match self.places.get(place) {
@@ -86,7 +86,7 @@ impl Presence {
         })
     }
 
-    fn meta(&self, track: &Track, tree: &Json) -> Result<Meta, AllocError>
+    fn meta(&self, track: &TrackKey, tree: &Json) -> Result<Meta, AllocError>
         ensures { IfOk result (λ m. m ≡ meta_of (track.now, tree.now)) }
     {
         Ok(Meta {
@@ -105,7 +105,7 @@ impl Presence {
         }
     }
 
-    fn joining(&self, place: &Place, track: &Track, tree: &Json) -> Result<Diff, AllocError>
+    fn joining(&self, place: &Place, track: &TrackKey, tree: &Json) -> Result<Diff, AllocError>
         ensures { IfOk result (λ d.
             d ≡ joining (track.now, tree.now) (track_of self.now place.now.topic place.now.channel)) }
     {
@@ -118,7 +118,7 @@ impl Presence {
         })
     }
 
-    fn leaving(&self, track: &Track, tree: &Json) -> Result<Diff, AllocError>
+    fn leaving(&self, track: &TrackKey, tree: &Json) -> Result<Diff, AllocError>
         ensures { IfOk result (λ d. d ≡ leaving (track.now, tree.now)) }
     {
         let left = self.meta(track, tree)?;
@@ -147,7 +147,7 @@ impl Presence {
         ensures err { OnErr result (self.new ≡ self.old) }
     {
         let place = self.place(topic, channel)?;
-        let track = Track {
+        let track = TrackKey {
             topic: topic.copy(self.alloc)?,
             key: key.copy(self.alloc)?,
             reference,
@@ -187,10 +187,10 @@ impl Presence {
         self.untrack(topic, channel)
     }
 
-    fn least_on(&self, topic: &Text) -> Result<Track, AllocError>
+    fn least_on(&self, topic: &Text) -> Result<TrackKey, AllocError>
         ensures { IfOk result (λ t. t ≡ least_on topic.now) }
     {
-        Ok(Track {
+        Ok(TrackKey {
             topic: topic.copy(self.alloc)?,
             key: Text::new(String::new(self.alloc)),
             reference: 0,
@@ -200,7 +200,7 @@ impl Presence {
 
     // The metas of the topic's tracks by their keys.
     fn groups_on(&self, topic: &Text) -> Result<Vec<Group>, AllocError>
-        ensures { IfOk result (λ groups. groups.items ≡ groups_of (map shown (on_topic topic.now self.now))) }
+        ensures { IfOk result (λ groups. groups.items ≡ groups_of (map held_of (on_topic topic.now self.now))) }
     {
         let least = self.least_on(topic)?;
         let mut groups = Vec::new(self.alloc);

@@ -1,8 +1,8 @@
 use Rattle.std.proofs.Common.{List, ap, sym, ◌∙◌}
 use Rattle.std.specs.Prelude.{is_some}
-use Rattle.rt_presence.specs.declared.tracks.Track.{Track}
+use Rattle.rt_presence.specs.declared.tracks.TrackKey.{TrackKey}
 use Rattle.rt_presence.specs.declared.tracks.Place.{Place}
-use Rattle.rt_presence.specs.Tracks.{Standing, track_cmp, place_cmp}
+use Rattle.rt_presence.specs.Tracks.{Tracked, track_cmp, place_cmp}
 use Rattle.rt_presence.specs.Index.{value_at}
 use Rattle.rt_presence.proofs.Entries.{without_key}
 use Rattle.rt_presence.proofs.Puts.{put_back}
@@ -65,10 +65,10 @@ pub returns-clause-err : goal.returns-clause-err
 returns-clause-err c =
     let tracks = c.args.tracks.now.entries in
     let done = c.in-Ok-None.ensures in
-    let same = ap (λ (pair : Place × Track). pair.1) c.in-Err-insert.ensures.value_returned ∙ c.requires.held in
+    let same = ap (λ (pair : Place × TrackKey). pair.1) c.in-Err-insert.ensures.value_returned ∙ c.requires.held in
     c.remove-in-Err-insert.ensures.entries
-    ∙ ap (λ (x : Track). without_key track_cmp c.insert.new.self.entries x) same
-    ∙ ap (λ (ts : List Standing). without_key track_cmp ts c.args.track) done.entries
+    ∙ ap (λ (x : TrackKey). without_key track_cmp c.insert.new.self.entries x) same
+    ∙ ap (λ (ts : List Tracked). without_key track_cmp ts c.args.track) done.entries
     ∙ put_back c.args.track c.args.tree tracks (sym done.old ∙ c.in-Ok-None.field-0-is)
 
 pub returns-clause-index : goal.returns-clause-index
