@@ -1,5 +1,6 @@
 -- What entries give, and what of it is a lane's.
-use Rattle.std.proofs.Common.{◌≡◌, ℕ, Bool, true, false, cond, List, [], ◌∷◌, ◌++◌, map, refl, sym, ap, ◌∙◌, append_assoc, append-nil}
+use Rattle.std.proofs.Common.{◌≡◌, ℕ, Bool, true, false, cond, List, [], ◌∷◌, ◌++◌, map, refl, sym, ap, ◌∙◌}
+use Rattle.std.proofs.Common.{append_assoc, append-nil}
 use Rattle.std.specs.List.{filter, filter_map, flat_map}
 use Rattle.std.proofs.lemmas.List.{map-append}
 use Rattle.std.proofs.lemmas.List.Concat.{flat_map-append}
@@ -18,7 +19,8 @@ use Rattle.rt_entry.specs.declared.entry.Entry.{Entry}
 use Rattle.rt_entry.specs.declared.entry.ChannelView.{ChannelView}
 use Rattle.rt_entry.specs.Story.{Now, now_of, tables_left}
 use Rattle.rt_entry.specs.Doings.{doings, story, poll_parts, gets, change_parts, change_parts_to, change_parts_to_all}
-use Rattle.rt_entry.specs.Answers.{Answers, Mark, answer, batch, stop, answer_of, answers, answers_by, mark_answers, mark_of, is_in_lane, of_lane, marks_by, marks_of, lane_marks, entry_of}
+use Rattle.rt_entry.specs.Answers.{Answers, Mark, answer, batch, stop, answer_of, answers, answers_by, mark_answers}
+use Rattle.rt_entry.specs.Answers.{mark_of, is_in_lane, of_lane, marks_by, marks_of, lane_marks, entry_of}
 use Rattle.rt_entry.specs.Fan.{is_of_lane, fan, given_by}
 use Rattle.rt_entry.proofs.Marks.{lane_more}
 
@@ -41,10 +43,12 @@ module _ (c : Catalog) (s : Settings) where
   entries_give (batch now tables changes) = refl
   entries_give stop = refl
 
-  all_give : (marks : List Mark) → flat_map (given_by c s) (map (entry_of c s) marks) ≡ flat_map (mark_answers c s) marks
+  all_give : (marks : List Mark) → flat_map (given_by c s) (map (entry_of c s) marks)
+      ≡ flat_map (mark_answers c s) marks
   all_give [] = refl
   all_give (m ∷ ms) =
-      ap (λ xs. xs ++ flat_map (given_by c s) (map (entry_of c s) ms)) (entries_give m) ∙ ap (λ xs. mark_answers c s m ++ xs) (all_give ms)
+      ap (λ xs. xs ++ flat_map (given_by c s) (map (entry_of c s) ms)) (entries_give m)
+      ∙ ap (λ xs. mark_answers c s m ++ xs) (all_give ms)
 
   marks_give : (gs : Answers) → flat_map (mark_answers c s) (map mark_of gs) ≡ gs
   marks_give [] = refl
@@ -54,12 +58,14 @@ module _ (c : Catalog) (s : Settings) where
       → filter (is_in_lane s.workers lane) (flat_map (given_by c s) (map (entry_of c s) (of_lane c s lane gs))) ≡ filter
       (is_in_lane s.workers lane) gs
   lane_gives lane gs =
-      ap (filter (is_in_lane s.workers lane)) (all_give (of_lane c s lane gs) ∙ marks_give (filter (is_in_lane s.workers lane) gs))
+      ap (filter (is_in_lane s.workers lane)) (all_give (of_lane c s lane gs)
+      ∙ marks_give (filter (is_in_lane s.workers lane) gs))
       ∙ kept_twice (is_in_lane s.workers lane) gs
 
   abbrev Answers_by : ℕ → Now → List (List Row) → Input → Type 0
   Answers_by lane now tables i =
-      filter (is_in_lane s.workers lane) (flat_map (given_by c s) (map (entry_of c s) (marks_by c s lane now tables i))) ≡ filter
+      filter (is_in_lane s.workers lane) (flat_map (given_by c s) (map (entry_of c s) (marks_by c s lane now tables i)))
+      ≡ filter
       (is_in_lane s.workers lane) (answers_by c s now tables i)
 
   input_answers : (lane : ℕ) (now : Now) (tables : List (List Row)) (i : Input) → Answers_by lane now tables i
@@ -69,8 +75,10 @@ module _ (c : Catalog) (s : Settings) where
   input_answers lane now tables Stop =
       let gs = answers_by c s now tables Stop in
       let marks = of_lane c s lane gs in
-      ap (λ es. filter (is_in_lane s.workers lane) (flat_map (given_by c s) es)) (map-append (entry_of c s) marks (stop ∷ []))
-      ∙ ap (filter (is_in_lane s.workers lane)) (flat_map-append (given_by c s) (map (entry_of c s) marks) (map (entry_of c s) (stop ∷ []))
+      ap (λ es. filter (is_in_lane s.workers lane) (flat_map (given_by c s) es))
+      (map-append (entry_of c s) marks (stop ∷ []))
+      ∙ ap (filter (is_in_lane s.workers lane))
+      (flat_map-append (given_by c s) (map (entry_of c s) marks) (map (entry_of c s) (stop ∷ []))
       ∙ append-nil (flat_map (given_by c s) (map (entry_of c s) marks)))
       ∙ lane_gives lane gs
   input_answers lane now tables (Opened n v claims) = lane_gives lane (answers_by c s now tables (Opened n v claims))
@@ -80,7 +88,8 @@ module _ (c : Catalog) (s : Settings) where
   input_answers lane now tables (Tick m) = lane_gives lane (answers_by c s now tables (Tick m))
 
   pub entries_answer : (before : List Input) (i : Input) (lane : ℕ)
-      → filter (is_in_lane s.workers lane) (flat_map (given_by c s) (map (entry_of c s) (marks_of c s lane before i))) ≡ filter
+      → filter (is_in_lane s.workers lane) (flat_map (given_by c s) (map (entry_of c s) (marks_of c s lane before i)))
+      ≡ filter
       (is_in_lane s.workers lane) (answers c s before i)
   unfolding marks_of
   entries_answer before i lane = input_answers lane (now_of (story c s before)) (tables_left c (story c s before) i) i
@@ -113,7 +122,8 @@ module _ (c : Catalog) (s : Settings) where
   one_in_lane : (w lane : ℕ) (v : ChannelView) (ch : Change) (subs : List Subscription)
       → filter (is_in_lane w lane) (filter_map answer_of (change_parts c s v ch subs)) ≡ cond (is_of_lane w lane v)
       (filter_map answer_of (change_parts c s v ch subs)) []
-  one_in_lane w lane v ch [] = let none : Answers = [] in elim (is_of_lane w lane v) as (λ b. none ≡ cond b none none) [ true ↦ refl | false ↦ refl ]
+  one_in_lane w lane v ch [] = let none : Answers = [] in
+      elim (is_of_lane w lane v) as (λ b. none ≡ cond b none none) [ true ↦ refl | false ↦ refl ]
   one_in_lane w lane v ch (sub ∷ more) = refl
 
   one_view : (f : ChannelView → List Part) (v : ChannelView) (views : List ChannelView) (b : Bool)
@@ -122,8 +132,10 @@ module _ (c : Catalog) (s : Settings) where
   one_view f v views true = sym (filter_map-append answer_of (f v) (flat_map f views))
   one_view f v views false = refl
 
-  views_in_lane : (w lane : ℕ) (subs : List Subscription) (tables : List (List Row)) (ch : Change) (views : List ChannelView)
-      → filter (is_in_lane w lane) (filter_map answer_of (flat_map (change_parts_to c s subs tables ch) views)) ≡ filter_map answer_of
+  views_in_lane : (w lane : ℕ) (subs : List Subscription) (tables : List (List Row)) (ch : Change)
+      (views : List ChannelView)
+      → filter (is_in_lane w lane) (filter_map answer_of (flat_map (change_parts_to c s subs tables ch) views))
+      ≡ filter_map answer_of
       (flat_map (change_parts_to c s subs tables ch) (filter (is_of_lane w lane) views))
   views_in_lane w lane subs tables ch [] = refl
   views_in_lane w lane subs tables ch (v ∷ views) =
@@ -132,21 +144,28 @@ module _ (c : Catalog) (s : Settings) where
       ∙ filter-append (is_in_lane w lane) (filter_map answer_of (f v)) (filter_map answer_of (flat_map f views))
       ∙ ap (λ xs. xs ++ filter (is_in_lane w lane) (filter_map answer_of (flat_map f views)))
       (one_in_lane w lane v ch (filter (gets c s tables ch v.channel) subs))
-      ∙ ap (λ xs. cond (is_of_lane w lane v) (filter_map answer_of (f v)) [] ++ xs) (views_in_lane w lane subs tables ch views)
+      ∙ ap (λ xs. cond (is_of_lane w lane v) (filter_map answer_of (f v)) [] ++ xs)
+      (views_in_lane w lane subs tables ch views)
       ∙ one_view f v (filter (is_of_lane w lane) views) (is_of_lane w lane v)
 
-  change_in_lane : (w lane : ℕ) (subs : List Subscription) (tables : List (List Row)) (views : List ChannelView) (ch : Change)
-      → filter (is_in_lane w lane) (filter_map answer_of (change_parts_to_all c s subs tables views ch)) ≡ filter_map answer_of
+  change_in_lane : (w lane : ℕ) (subs : List Subscription) (tables : List (List Row)) (views : List ChannelView)
+      (ch : Change)
+      → filter (is_in_lane w lane) (filter_map answer_of (change_parts_to_all c s subs tables views ch))
+      ≡ filter_map answer_of
       (change_parts_to_all c s subs tables (filter (is_of_lane w lane) views) ch)
   change_in_lane w lane subs tables views ch =
       elim (is_truncate ch.verb) as (λ b. filter (is_in_lane w lane)
       (filter_map answer_of (elim b [ true ↦ [] | false ↦ flat_map (change_parts_to c s subs tables ch) views ]))
-      ≡ filter_map answer_of (elim b [ true ↦ [] | false ↦ flat_map (change_parts_to c s subs tables ch) (filter (is_of_lane w lane) views) ])) [
+      ≡ filter_map answer_of (elim b [
+        | true ↦ []
+        | false ↦ flat_map (change_parts_to c s subs tables ch) (filter (is_of_lane w lane) views)
+      ])) [
         | true ↦ refl
         | false ↦ views_in_lane w lane subs tables ch views
       ]
 
-  changes_in_lane : (w lane : ℕ) (subs : List Subscription) (tables : List (List Row)) (views : List ChannelView) (changes : List Change)
+  changes_in_lane : (w lane : ℕ) (subs : List Subscription) (tables : List (List Row)) (views : List ChannelView)
+      (changes : List Change)
       → filter (is_in_lane w lane) (filter_map answer_of (flat_map (change_parts_to_all c s subs tables views) changes))
       ≡ filter_map answer_of (flat_map (change_parts_to_all c s subs tables (filter (is_of_lane w lane) views)) changes)
   changes_in_lane w lane subs tables views [] = refl
@@ -155,11 +174,13 @@ module _ (c : Catalog) (s : Settings) where
       let g = change_parts_to_all c s subs tables (filter (is_of_lane w lane) views) in
       ap (filter (is_in_lane w lane)) (filter_map-append answer_of (f ch) (flat_map f more))
       ∙ filter-append (is_in_lane w lane) (filter_map answer_of (f ch)) (filter_map answer_of (flat_map f more))
-      ∙ ap (λ xs. xs ++ filter (is_in_lane w lane) (filter_map answer_of (flat_map f more))) (change_in_lane w lane subs tables views ch)
+      ∙ ap (λ xs. xs ++ filter (is_in_lane w lane) (filter_map answer_of (flat_map f more)))
+      (change_in_lane w lane subs tables views ch)
       ∙ ap (λ xs. filter_map answer_of (g ch) ++ xs) (changes_in_lane w lane subs tables views more)
       ∙ sym (filter_map-append answer_of (g ch) (flat_map g more))
 
-  pub lane_fans : (lane : ℕ) (subs : List Subscription) (tables : List (List Row)) (views : List ChannelView) (changes : List Change)
+  pub lane_fans : (lane : ℕ) (subs : List Subscription) (tables : List (List Row)) (views : List ChannelView)
+      (changes : List Change)
       → filter (is_in_lane s.workers lane) (fan c s subs tables views changes) ≡ fan c s subs tables
       (filter (is_of_lane s.workers lane) views) changes
   unfolding fan poll_parts

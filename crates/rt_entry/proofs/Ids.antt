@@ -1,5 +1,6 @@
 -- Subscriptions stand in the order of their ids.
-use Rattle.std.proofs.Common.{◌≡◌, ◌⊎◌, ℕ, suc, ◌+◌, ◌≤◌, Bool, true, false, not, cond, List, [], ◌∷◌, ◌++◌, map, length, refl, sym, ap, subst, ◌∙◌, length-append, arith, inl, inr}
+use Rattle.std.proofs.Common.{◌≡◌, ◌⊎◌, ℕ, suc, ◌+◌, ◌≤◌, Bool, true, false, not, cond, List, [], ◌∷◌, ◌++◌, map}
+use Rattle.std.proofs.Common.{length, refl, sym, ap, subst, ◌∙◌, length-append, arith, inl, inr}
 use Rattle.std.specs.Prelude.{⊤}
 use Rattle.std.specs.List.{filter, flat_map, enumerate_from}
 use Rattle.std.proofs.lemmas.List.{map-append}
@@ -34,10 +35,13 @@ abbrev pub Apart : ℕ → List Channel → ℕ → Type 0
 Apart low [] high = low ≤ high
 Apart low (ch ∷ chs) high = (low ≤ ch.first_id) × Apart (ch.first_id + length ch.bindings) chs high
 
-follow_append : (low : ℕ) (xs ys : List Channel) → Follow low xs → Follow (low + bindings_in xs) ys → Follow low (xs ++ ys)
-follow_append low [] ys f g = let e : low + 0 ≡ low = omega arith in let P : ℕ → Type 0 = λ n. Follow n ys in subst P e g
+follow_append : (low : ℕ) (xs ys : List Channel) → Follow low xs → Follow (low + bindings_in xs) ys
+    → Follow low (xs ++ ys)
+follow_append low [] ys f g = let e : low + 0 ≡ low = omega arith in let P : ℕ → Type 0 = λ n. Follow n ys in
+    subst P e g
 follow_append low (x ∷ xs) ys f g =
-    let more : bindings_in (x ∷ xs) ≡ length x.bindings + bindings_in xs = length-append x.bindings (flat_map (λ ch. ch.bindings) xs) in
+    let more : bindings_in (x ∷ xs) ≡ length x.bindings + bindings_in xs =
+    length-append x.bindings (flat_map (λ ch. ch.bindings) xs) in
     let e : low + bindings_in (x ∷ xs) ≡ (low + length x.bindings) + bindings_in xs = omega arith in
     let P : ℕ → Type 0 = λ n. Follow n ys in
     (f.0, follow_append (low + length x.bindings) xs ys f.1 (subst P e g))
@@ -46,7 +50,8 @@ apart_of : (low high : ℕ) (chs : List Channel) → Follow low chs → low + bi
 apart_of low high [] f e = omega arith
 apart_of low high (ch ∷ chs) f e =
     let is = f.0 in
-    let more : bindings_in (ch ∷ chs) ≡ length ch.bindings + bindings_in chs = length-append ch.bindings (flat_map (λ d. d.bindings) chs) in
+    let more : bindings_in (ch ∷ chs) ≡ length ch.bindings + bindings_in chs =
+    length-append ch.bindings (flat_map (λ d. d.bindings) chs) in
     let P : ℕ → Type 0 = λ n. Apart (n + length ch.bindings) chs high in
     (omega arith, subst P (sym is) (apart_of (low + length ch.bindings) high chs f.1 (omega arith)))
 
@@ -54,7 +59,8 @@ apart_lower : (low lower high : ℕ) (chs : List Channel) → lower ≤ low → 
 apart_lower low lower high [] le a = omega arith
 apart_lower low lower high (ch ∷ chs) le a = let here = a.0 in (omega arith, a.1)
 
-apart_filter : (p : Channel → Bool) (low high : ℕ) (chs : List Channel) → Apart low chs high → Apart low (filter p chs) high
+apart_filter : (p : Channel → Bool) (low high : ℕ) (chs : List Channel) → Apart low chs high
+    → Apart low (filter p chs) high
 apart_filter p low high [] a = a
 apart_filter p low high (ch ∷ chs) a =
     let rest = apart_filter p (ch.first_id + length ch.bindings) high chs a.1 in
@@ -64,7 +70,8 @@ apart_filter p low high (ch ∷ chs) a =
       | false ↦ apart_lower (ch.first_id + length ch.bindings) low high (filter p chs) (omega arith) rest
     ]
 
-one_follows : (low : ℕ) (js : List Channel) → ((length js ≡ 0) ⊎ (length js ≡ 1)) → AllOf (λ (ch : Channel). ch.first_id ≡ low) js → Follow low js
+one_follows : (low : ℕ) (js : List Channel) → ((length js ≡ 0) ⊎ (length js ≡ 1))
+    → AllOf (λ (ch : Channel). ch.first_id ≡ low) js → Follow low js
 one_follows low [] one e = tt
 one_follows low (j ∷ []) one e = (e.0, tt)
 one_follows low (j ∷ k ∷ more) (inl one) e = absurd (omega arith)
@@ -81,7 +88,8 @@ joined_follow (l ∷ before) h =
     let next : ids_given before + 1 ≡ 1 + bindings_in (joined before) = let e = given_is before in omega arith in
     let P : ℕ → Type 0 = λ n. AllOf (λ (ch : Channel). ch.first_id ≡ n) (joins_of l.parts) in
     subst (Follow 1) (sym (joined_grows l before w.one))
-    (follow_append 1 (joined before) (joins_of l.parts) (joined_follow before h.1) (one_follows (1 + bindings_in (joined before)) (joins_of l.parts) w.one (subst P next w.ids)))
+    (follow_append 1 (joined before) (joins_of l.parts) (joined_follow before h.1)
+    (one_follows (1 + bindings_in (joined before)) (joins_of l.parts) w.one (subst P next w.ids)))
 
 members_apart : (st : Story) → Shaped st → Apart 1 (members_at st) (suc (ids_given st))
 unfolding members_at
@@ -99,7 +107,8 @@ rise_lower low lower high (n ∷ ns) le r = let here = r.0 in (omega arith, r.1)
 abbrev pub id_of : Subscription → ℕ
 id_of x = x.id
 
-counted : (channel slot role : ℕ) (claims : Claims) (low first high : ℕ) (bs : List Subscribed) (rest : List ℕ) → low ≤ first
+counted : (channel slot role : ℕ) (claims : Claims) (low first high : ℕ) (bs : List Subscribed) (rest : List ℕ)
+    → low ≤ first
     → RiseWithin (first + length bs) rest high
     → RiseWithin low (map id_of (map (subscription_of channel slot role claims) (enumerate_from first bs)) ++ rest) high
 counted channel slot role claims low first high [] rest le r = rise_lower (first + 0) low high rest (omega arith) r
@@ -131,13 +140,15 @@ rise_filter p low high (x ∷ xs) r =
       | false ↦ rise_lower (suc x.id) low high (map id_of (filter p xs)) (omega arith) rest
     ]
 
-later_id : (low high : ℕ) (xs : List Subscription) (y : Subscription) → RiseWithin low (map id_of xs) high → Among xs y → low ≤ y.id
+later_id : (low high : ℕ) (xs : List Subscription) (y : Subscription) → RiseWithin low (map id_of xs) high → Among xs y
+    → low ≤ y.id
 later_id low high [] y r h = absurd h
 later_id low high (x ∷ xs) y r (inl e) = let P : Subscription → Type 0 = λ z. low ≤ z.id in subst P e r.0
 later_id low high (x ∷ xs) y r (inr h) = let here = r.0 in let more = later_id (suc x.id) high xs y r.1 h in omega arith
 
 -- subscriptions of one id are one
-pub same_id : (low high : ℕ) (xs : List Subscription) (x y : Subscription) → RiseWithin low (map id_of xs) high → Among xs x → Among xs y → x.id ≡ y.id
+pub same_id : (low high : ℕ) (xs : List Subscription) (x y : Subscription) → RiseWithin low (map id_of xs) high
+    → Among xs x → Among xs y → x.id ≡ y.id
     → x ≡ y
 same_id low high [] x y r a b e = absurd a
 same_id low high (z ∷ xs) x y r (inl a) (inl b) e = sym a ∙ b
@@ -155,5 +166,6 @@ ids_rise c s journal =
 
 pub told_ids_rise : (c : Catalog) (s : Settings) → ToldIdsRise c s
 told_ids_rise c s before changes ch to =
-    rise_filter (gets c s (judged_on c s before changes) ch to.channel) 1 (suc (now_of (story c s before)).ids) (subscribed c s before)
+    rise_filter (gets c s (judged_on c s before changes) ch to.channel) 1 (suc (now_of (story c s before)).ids)
+    (subscribed c s before)
     (ids_rise c s before)

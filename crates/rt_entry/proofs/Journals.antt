@@ -12,7 +12,10 @@ use Rattle.rt_entry.proofs.Sound.{members_in, Shaped, held_below, members_apart,
 
 module _ (c : Catalog) (s : Settings) where
   abbrev pub line_of : List Input → Input → Line
-  line_of journal i = record { input = i; parts = doings c s (now_of (story c s journal)) (tables_left c (story c s journal) i) i }
+  line_of journal i = record {
+    input = i;
+    parts = doings c s (now_of (story c s journal)) (tables_left c (story c s journal) i) i;
+  }
 
   pub shape_next : (st : Story) (i : Input) → Shaped st
       → Shape (fine_for i) (length st) (ids_given st) (members_in st) (doings c s (now_of st) (tables_left c st i) i)
@@ -34,9 +37,11 @@ module _ (c : Catalog) (s : Settings) where
   story_grows journal i =
       let st = story c s journal in
       let l = line_of journal i in
-      ap now_of (story_more journal i) ∙ now_grows l st (shape_sound l st (shape_next st i (story_shaped journal), story_shaped journal))
+      ap now_of (story_more journal i)
+      ∙ now_grows l st (shape_sound l st (shape_next st i (story_shaped journal), story_shaped journal))
 
-  pub tables_grow : (journal : List Input) (i : Input) → tables_of c (edits_at (story c s (i ∷ journal))) ≡ tables_left c (story c s journal) i
+  pub tables_grow : (journal : List Input) (i : Input) → tables_of c (edits_at (story c s (i ∷ journal)))
+      ≡ tables_left c (story c s journal) i
   unfolding story edits_at
   tables_grow journal i = refl
 

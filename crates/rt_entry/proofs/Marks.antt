@@ -1,5 +1,6 @@
 -- What a lane's marks give a slot is what is due to it.
-use Rattle.std.proofs.Common.{◌≡◌, ℕ, ◌%◌, Bool, true, false, cond, List, [], ◌∷◌, ◌++◌, map, refl, sym, ap, ◌∙◌, append-nil, inl, inr, eqb}
+use Rattle.std.proofs.Common.{◌≡◌, ℕ, ◌%◌, Bool, true, false, cond, List, [], ◌∷◌, ◌++◌, map, refl, sym, ap, ◌∙◌}
+use Rattle.std.proofs.Common.{append-nil, inl, inr, eqb}
 use Rattle.std.specs.List.{filter}
 use Rattle.std.proofs.lemmas.Bool.Decides.{eqb_tells}
 use Rattle.std.proofs.lemmas.List.{map-append}
@@ -20,15 +21,19 @@ use Rattle.rt_entry.specs.declared.answer.Answer.{Answer}
 use Rattle.rt_entry.specs.declared.answer.Answer.TheVariants as answer_name
 use Rattle.rt_entry.specs.Story.{Now, now_of, tables_left}
 use Rattle.rt_entry.specs.Doings.{story}
-use Rattle.rt_entry.specs.Answers.{Answers, Mark, batch, stop, answers_by, answers, at_slot, told, spell, items_for, all_answers, due, is_in_lane, mark_answers, answers_of_marks, mark_of, of_lane, marks_by, marks_of, lane_marks, entry_of}
+use Rattle.rt_entry.specs.Answers.{Answers, Mark, batch, stop, answers_by, answers, at_slot, told, spell, items_for}
+use Rattle.rt_entry.specs.Answers.{all_answers, due, is_in_lane, mark_answers, answers_of_marks, mark_of, of_lane}
+use Rattle.rt_entry.specs.Answers.{marks_by, marks_of, lane_marks, entry_of}
 use Rattle.rt_entry.specs.Lanes.{MarksGrow, EntriesGrow}
 
 -- spelling goes on
 pub spell_more : (v : Version) (xs ys : List Answer) → (rest : List Item) × (spell v (xs ++ ys) ≡ spell v xs ++ rest)
 spell_more v [] ys = (spell v ys, refl)
 spell_more v (answer_name.Opened w ∷ xs) ys = spell_more w xs ys
-spell_more v (answer_name.Says m ∷ xs) ys = let found = spell_more v xs ys in (found.0, ap (λ is. item.Message (spelled v m) ∷ is) found.1)
-spell_more v (answer_name.Ended n ∷ xs) ys = let found = spell_more v xs ys in (found.0, ap (λ is. item.End n ∷ is) found.1)
+spell_more v (answer_name.Says m ∷ xs) ys = let found = spell_more v xs ys in
+    (found.0, ap (λ is. item.Message (spelled v m) ∷ is) found.1)
+spell_more v (answer_name.Ended n ∷ xs) ys = let found = spell_more v xs ys in
+    (found.0, ap (λ is. item.End n ∷ is) found.1)
 
 pub told_append : (slot : ℕ) (xs ys : Answers) → told slot (xs ++ ys) ≡ told slot xs ++ told slot ys
 unfolding told
@@ -39,7 +44,8 @@ unfolding told
 told_none slot = refl
 
 pub told_cons : (slot : ℕ) (g : ℕ × Answer) (gs : Answers)
-    → (eqb g.0 slot ≡ false → told slot (g ∷ gs) ≡ told slot gs) × (eqb g.0 slot ≡ true → told slot (g ∷ gs) ≡ g.1 ∷ told slot gs)
+    → (eqb g.0 slot ≡ false → told slot (g ∷ gs) ≡ told slot gs)
+    × (eqb g.0 slot ≡ true → told slot (g ∷ gs) ≡ g.1 ∷ told slot gs)
 unfolding told
 told_cons slot g gs = ((λ (e : eqb g.0 slot ≡ false). rw e refl), (λ (e : eqb g.0 slot ≡ true). rw e refl))
 
@@ -48,7 +54,8 @@ keep_or : (w l slot : ℕ) (g : ℕ × Answer) (gs : Answers) (b : Bool) → is_
     told slot (cond b (g ∷ filter (is_in_lane w l) gs) (filter (is_in_lane w l) gs)) ≡ told slot (g ∷ gs)
 keep_or w l slot g gs true e f h =
     elim (eqb_tells g.0 slot) [
-      | inl t ↦ (told_cons slot g (filter (is_in_lane w l) gs)).1 t.0 ∙ ap (λ xs. g.1 ∷ xs) h ∙ sym ((told_cons slot g gs).1 t.0)
+      | inl t ↦ (told_cons slot g (filter (is_in_lane w l) gs)).1 t.0 ∙ ap (λ xs. g.1 ∷ xs) h
+          ∙ sym ((told_cons slot g gs).1 t.0)
       | inr t ↦ (told_cons slot g (filter (is_in_lane w l) gs)).0 t.0 ∙ h ∙ sym ((told_cons slot g gs).0 t.0)
     ]
 keep_or w l slot g gs false e f h =
@@ -58,7 +65,8 @@ keep_or w l slot g gs false e f h =
     ]
 
 -- the lane's part holds all of its slots
-pub told_in_lane : (w l slot : ℕ) → slot % w ≡ l → (gs : Answers) → told slot (filter (is_in_lane w l) gs) ≡ told slot gs
+pub told_in_lane : (w l slot : ℕ) → slot % w ≡ l → (gs : Answers)
+    → told slot (filter (is_in_lane w l) gs) ≡ told slot gs
 told_in_lane w l slot e [] = refl
 told_in_lane w l slot e (g ∷ gs) =
     let same : g.0 ≡ slot → is_in_lane w l g ≡ true = λ h. elim
@@ -71,7 +79,8 @@ module _ (c : Catalog) (s : Settings) where
   marks_back [] = refl
   marks_back (g ∷ gs) = ap (λ xs. g ∷ xs) (marks_back gs)
 
-  pub marks_append : (xs ys : List Mark) → answers_of_marks c s (xs ++ ys) ≡ answers_of_marks c s xs ++ answers_of_marks c s ys
+  pub marks_append : (xs ys : List Mark) → answers_of_marks c s (xs ++ ys) ≡ answers_of_marks c s xs
+      ++ answers_of_marks c s ys
   unfolding answers_of_marks
   marks_append xs ys = flat_map-append (mark_answers c s) xs ys
 
@@ -92,7 +101,8 @@ module _ (c : Catalog) (s : Settings) where
   pub lane_back : (l : ℕ) (gs : Answers) → answers_of_marks c s (of_lane c s l gs) ≡ filter (is_in_lane s.workers l) gs
   lane_back l gs = marks_back (filter (is_in_lane s.workers l) gs)
 
-  of_lane_told : (l slot : ℕ) → slot % s.workers ≡ l → (gs : Answers) → told slot (answers_of_marks c s (of_lane c s l gs)) ≡ told slot gs
+  of_lane_told : (l slot : ℕ) → slot % s.workers ≡ l → (gs : Answers)
+      → told slot (answers_of_marks c s (of_lane c s l gs)) ≡ told slot gs
   of_lane_told l slot e gs = ap (told slot) (lane_back l gs) ∙ told_in_lane s.workers l slot e gs
 
   -- the marks of one input
@@ -101,21 +111,26 @@ module _ (c : Catalog) (s : Settings) where
   marks_told l slot e now tables (Poll changes) = ap (told slot) (one_batch now tables changes)
   marks_told l slot e now tables Stop =
       let gs = answers_by c s now tables Stop in
-      ap (told slot) (marks_append (of_lane c s l gs) (stop ∷ []) ∙ ap (λ xs. answers_of_marks c s (of_lane c s l gs) ++ xs) one_stop
+      ap (told slot) (marks_append (of_lane c s l gs) (stop ∷ [])
+      ∙ ap (λ xs. answers_of_marks c s (of_lane c s l gs) ++ xs) one_stop
       ∙ append-nil (answers_of_marks c s (of_lane c s l gs)))
       ∙ of_lane_told l slot e gs
-  marks_told l slot e now tables (Opened n v claims) = of_lane_told l slot e (answers_by c s now tables (Opened n v claims))
+  marks_told l slot e now tables (Opened n v claims) =
+      of_lane_told l slot e (answers_by c s now tables (Opened n v claims))
   marks_told l slot e now tables (Frame n bytes) = of_lane_told l slot e (answers_by c s now tables (Frame n bytes))
   marks_told l slot e now tables (Gone n) = of_lane_told l slot e (answers_by c s now tables (Gone n))
-  marks_told l slot e now tables (Post n claims ps) = of_lane_told l slot e (answers_by c s now tables (Post n claims ps))
+  marks_told l slot e now tables (Post n claims ps) =
+      of_lane_told l slot e (answers_by c s now tables (Post n claims ps))
   marks_told l slot e now tables (Tick m) = of_lane_told l slot e (answers_by c s now tables (Tick m))
 
   marks_of_told : (l slot : ℕ) → slot % s.workers ≡ l → (before : List Input) (i : Input)
       → told slot (answers_of_marks c s (marks_of c s l before i)) ≡ told slot (answers c s before i)
   unfolding marks_of
-  marks_of_told l slot e before i = marks_told l slot e (now_of (story c s before)) (tables_left c (story c s before) i) i
+  marks_of_told l slot e before i =
+      marks_told l slot e (now_of (story c s before)) (tables_left c (story c s before) i) i
 
-  pub lane_more : (before : List Input) (i : Input) (l : ℕ) → lane_marks c s (i ∷ before) l ≡ lane_marks c s before l ++ marks_of c s l before i
+  pub lane_more : (before : List Input) (i : Input) (l : ℕ) → lane_marks c s (i ∷ before) l ≡ lane_marks c s before l
+      ++ marks_of c s l before i
   unfolding lane_marks
   lane_more before i l = refl
 
@@ -123,7 +138,8 @@ module _ (c : Catalog) (s : Settings) where
   unfolding lane_marks
   lane_none l = refl
 
-  pub answers_more : (before : List Input) (i : Input) → all_answers c s (i ∷ before) ≡ all_answers c s before ++ answers c s before i
+  pub answers_more : (before : List Input) (i : Input) → all_answers c s (i ∷ before) ≡ all_answers c s before
+      ++ answers c s before i
   unfolding all_answers
   answers_more before i = refl
 
@@ -149,10 +165,14 @@ module _ (c : Catalog) (s : Settings) where
 
   -- the first marks give the first items
   pub items_more : (slot : ℕ) (xs ys : List Mark)
-      → (rest : List Item) × (items_for slot (answers_of_marks c s (xs ++ ys)) ≡ items_for slot (answers_of_marks c s xs) ++ rest)
+      → (rest : List Item) × (items_for slot (answers_of_marks c s (xs ++ ys))
+      ≡ items_for slot (answers_of_marks c s xs) ++ rest)
   items_more slot xs ys =
-      let found = spell_more V1 (told slot (answers_of_marks c s xs)) (told slot (answers_of_marks c s ys)) in
-      (found.0, ap (spell V1) (ap (told slot) (marks_append xs ys) ∙ told_append slot (answers_of_marks c s xs) (answers_of_marks c s ys)) ∙ found.1)
+      let found = spell_more V1 (told slot (answers_of_marks c s xs)) (told slot (answers_of_marks c s ys)) in (
+        found.0,
+        ap (spell V1) (ap (told slot) (marks_append xs ys)
+            ∙ told_append slot (answers_of_marks c s xs) (answers_of_marks c s ys)) ∙ found.1,
+      )
 
   -- an input more
   pub marks_grow : MarksGrow c s
@@ -160,4 +180,5 @@ module _ (c : Catalog) (s : Settings) where
 
   pub entries_grow : EntriesGrow c s
   entries_grow before i lane =
-      ap (map (entry_of c s)) (lane_more c s before i lane) ∙ map-append (entry_of c s) (lane_marks c s before lane) (marks_of c s lane before i)
+      ap (map (entry_of c s)) (lane_more c s before i lane)
+      ∙ map-append (entry_of c s) (lane_marks c s before lane) (marks_of c s lane before i)

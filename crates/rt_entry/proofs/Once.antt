@@ -21,7 +21,8 @@ module _ (c : Catalog) (s : Settings) where
       let ms = members_in (story c s journal) in
       same_member (story c s journal) g h (story_shaped c s journal) (from_contains ms g a) (from_contains ms h b) e
 
-  pub topics_apart : (journal : List Input) (g h : Member) → Contains (members_of_journal c s journal) g → Contains (members_of_journal c s journal) h
+  pub topics_apart : (journal : List Input) (g h : Member) → Contains (members_of_journal c s journal) g
+      → Contains (members_of_journal c s journal) h
       → g.channel.slot ≡ h.channel.slot → g.channel.topic ≡ h.channel.topic → g ≡ h
   unfolding now_of
   topics_apart journal g h a b e t =

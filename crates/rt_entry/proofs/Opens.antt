@@ -1,5 +1,6 @@
 -- The slot of each member is open: a member whose slot ends departs.
-use Rattle.std.proofs.Common.{◌≡◌, ℕ, zero, suc, ◌+◌, Bool, true, false, ◌||◌, List, [], ◌∷◌, ◌++◌, map, Option, Some, None, refl, sym, ap, subst, ◌∙◌, append-nil, arith, inl, inr}
+use Rattle.std.proofs.Common.{◌≡◌, ℕ, zero, suc, ◌+◌, Bool, true, false, ◌||◌, List, [], ◌∷◌, ◌++◌, map, Option, Some}
+use Rattle.std.proofs.Common.{None, refl, sym, ap, subst, ◌∙◌, append-nil, arith, inl, inr}
 use Rattle.std.specs.Prelude.{⊤, ◌==◌, slice_get, codes, if◌then◌else◌}
 use Rattle.std.specs.List.{filter, flat_map, enumerate_from}
 use Rattle.std.proofs.lemmas.Bool.Decides.{eqb_tells}
@@ -16,7 +17,9 @@ use Rattle.rt_entry.specs.declared.story.Track.{Track}
 use Rattle.rt_entry.specs.declared.story.Part.{Part}
 use Rattle.rt_entry.specs.declared.story.Part.TheVariants.{Opens, Ends, Tells, Joins, Renews, Tracks, Untracks, Departs}
 use Rattle.rt_entry.specs.Story.{Now, has, departed_by, departed_in, heard_in, opened_after}
-use Rattle.rt_entry.specs.Doings.{in_turn, or_none, opening_in, is_of_slot, channels_of, track_of, watches, diff_to, diffs, leave_diffs, depart, end_of, end_if_open, close, fail, open_parts, is_idle, has_run_out, tick_parts, departs_of, stop_parts}
+use Rattle.rt_entry.specs.Doings.{in_turn, or_none, opening_in, is_of_slot, channels_of, track_of, watches, diff_to}
+use Rattle.rt_entry.specs.Doings.{diffs, leave_diffs, depart, end_of, end_if_open, close, fail, open_parts, is_idle}
+use Rattle.rt_entry.specs.Doings.{has_run_out, tick_parts, departs_of, stop_parts}
 use Rattle.rt_entry.specs.After.{joins_of, opens_after, after}
 use Rattle.rt_entry.proofs.Shapes.{eqb_same}
 use Rattle.rt_entry.proofs.Sound.{has_append}
@@ -80,11 +83,13 @@ still_joins (Untracks k ∷ ps) a = still_joins ps a.1
 still_joins (Departs k ∷ ps) a = still_joins ps a.1
 
 -- an opening that isn't ended stands behind the parts
-pub stays_open : (slot : ℕ) (ps : List Part) (o : Opening) → AllOf (Spares slot) ps → opened_after slot ps (Some o) ≡ Some o
+pub stays_open : (slot : ℕ) (ps : List Part) (o : Opening) → AllOf (Spares slot) ps
+    → opened_after slot ps (Some o) ≡ Some o
 stays_open slot [] o a = refl
 stays_open slot (Opens s p ∷ ps) o a =
     ap (λ (b : Bool). opened_after slot ps (if b then Some p else Some o)) a.0 ∙ stays_open slot ps o a.1
-stays_open slot (Ends s e ∷ ps) o a = ap (λ (b : Bool). opened_after slot ps (if b then None else Some o)) a.0 ∙ stays_open slot ps o a.1
+stays_open slot (Ends s e ∷ ps) o a = ap (λ (b : Bool). opened_after slot ps (if b then None else Some o)) a.0
+    ∙ stays_open slot ps o a.1
 stays_open slot (Tells s m ∷ ps) o a = stays_open slot ps o a.1
 stays_open slot (Joins c ∷ ps) o a = stays_open slot ps o a.1
 stays_open slot (Renews k x ∷ ps) o a = stays_open slot ps o a.1
@@ -96,7 +101,8 @@ abbrev pub IsOpen : Now → ℕ → Type 0
 IsOpen now slot = (o : Opening) × (opening_in now slot ≡ Some o)
 
 -- the elements of a list with their places
-place_of : {A : Type 0} (k : ℕ) (xs : List A) (n : ℕ) (x : A) → slice_get xs n ≡ Some x → Among (enumerate_from k xs) (k + n, x)
+place_of : {A : Type 0} (k : ℕ) (xs : List A) (n : ℕ) (x : A) → slice_get xs n ≡ Some x
+    → Among (enumerate_from k xs) (k + n, x)
 place_of k [] n x e = absurd (cc)
 place_of {A} k (y ∷ ys) zero x e =
     let P : ℕ → Type 0 = λ j. Among (enumerate_from k (y ∷ ys)) (j, x) in
@@ -120,7 +126,8 @@ held_there : (o : Option (Option Opening)) (x : Opening) → or_none o ≡ Some 
 held_there None x e = absurd (cc)
 held_there (Some o) x e = ap (λ (y : Option Opening). Some y) e
 
-pub open_after : (now : Now) (i : Input) (ps : List Part) (slot : ℕ) → IsOpen now slot → AllOf (Spares slot) ps → IsOpen (after now i ps) slot
+pub open_after : (now : Now) (i : Input) (ps : List Part) (slot : ℕ) → IsOpen now slot → AllOf (Spares slot) ps
+    → IsOpen (after now i ps) slot
 unfolding after
 open_after now i ps slot held_open a =
     let at = at_place (opens_after i now.moment ps) 0 now.opens slot (Some held_open.0)
@@ -129,10 +136,12 @@ open_after now i ps slot held_open a =
     let heard = heard_in i now.moment slot held_open.0 in (
       heard,
       ap (λ (x : Option (Option Opening)). or_none x) (at
-          ∙ ap (λ (n : ℕ). Some (opens_after i now.moment ps (n, Some held_open.0))) zero_more) ∙ stays_open slot ps heard a,
+          ∙ ap (λ (n : ℕ). Some (opens_after i now.moment ps (n, Some held_open.0))) zero_more)
+          ∙ stays_open slot ps heard a,
     )
 
-still_turn : {A : Type 0} (act : List ℕ → A → List Part) → ((gone : List ℕ) (x : A) → AllOf Still (act gone x)) → (gone : List ℕ) (xs : List A)
+still_turn : {A : Type 0} (act : List ℕ → A → List Part) → ((gone : List ℕ) (x : A) → AllOf Still (act gone x))
+    → (gone : List ℕ) (xs : List A)
     → AllOf Still (in_turn act gone xs)
 still_turn act f gone [] = tt
 still_turn act f gone (x ∷ xs) =
@@ -141,7 +150,8 @@ still_turn act f gone (x ∷ xs) =
 
 module _ (now : Now) where
   pub still_diffs : (gone topic : List ℕ) (joins leaves : List Track) → AllOf Still (diffs now gone topic joins leaves)
-  still_diffs gone topic joins leaves = all_map Still (diff_to joins leaves) (filter (watches gone topic) now.members) (λ h. tt)
+  still_diffs gone topic joins leaves =
+      all_map Still (diff_to joins leaves) (filter (watches gone topic) now.members) (λ h. tt)
 
   pub still_leave : (gone : List ℕ) (o : Option Track) → AllOf Still (leave_diffs now gone o)
   still_leave gone None = tt
@@ -160,18 +170,21 @@ module _ (now : Now) where
   still_closing gs = still_turn (close now) still_close [] gs
 
   -- each that departs in turn has departed
-  turn_has : (gone : List ℕ) (gs : List Member) (h : Member) → Among gs h → has h.channel.number (departed_in (in_turn (depart now) gone gs)) ≡ true
+  turn_has : (gone : List ℕ) (gs : List Member) (h : Member) → Among gs h
+      → has h.channel.number (departed_in (in_turn (depart now) gone gs)) ≡ true
   turn_has gone [] h i = absurd i
   turn_has gone (g ∷ gs) h (inl e) =
       let n = h.channel.number in
       let next = departed_in (depart now gone g) ++ gone in
       let first : has n (departed_in (depart now gone g)) ≡ true =
       or_left (g.channel.number == n) _ (ap (λ (m : Member). m.channel.number == n) e ∙ eqb_same n) in
-      has_append n (depart now gone g) (in_turn (depart now) next gs) ∙ or_left (has n (departed_in (depart now gone g))) _ first
+      has_append n (depart now gone g) (in_turn (depart now) next gs)
+      ∙ or_left (has n (departed_in (depart now gone g))) _ first
   turn_has gone (g ∷ gs) h (inr i) =
       let n = h.channel.number in
       let next = departed_in (depart now gone g) ++ gone in
-      has_append n (depart now gone g) (in_turn (depart now) next gs) ∙ or_right (has n (departed_in (depart now gone g))) _ (turn_has next gs h i)
+      has_append n (depart now gone g) (in_turn (depart now) next gs)
+      ∙ or_right (has n (departed_in (depart now gone g))) _ (turn_has next gs h i)
 
   -- the channels of a slot that ends depart
   pub end_has : (gone : List ℕ) (slot : ℕ) (name : EndName) (h : Member) → Among now.members h → h.channel.slot ≡ slot
@@ -185,33 +198,39 @@ module _ (now : Now) where
   -- where a member doesn't depart its slot is left alone
   abbrev pub Keeps : List Part → List ℕ → Type 0
   Keeps ps gone =
-      (h : Member) → Among now.members h → has h.channel.number (departed_in ps ++ gone) ≡ false → AllOf (Spares h.channel.slot) ps
+      (h : Member) → Among now.members h → has h.channel.number (departed_in ps ++ gone) ≡ false
+      → AllOf (Spares h.channel.slot) ps
 
   pub keeps_still : (ps : List Part) (gone : List ℕ) → AllOf Still ps → Keeps ps gone
   keeps_still ps gone a h here stays = still_on h.channel.slot ps a
 
-  keeps_then : (ps qs : List Part) (gone : List ℕ) → Keeps ps gone → Keeps qs (departed_in ps ++ gone) → Keeps (ps ++ qs) gone
+  keeps_then : (ps qs : List Part) (gone : List ℕ) → Keeps ps gone → Keeps qs (departed_in ps ++ gone)
+      → Keeps (ps ++ qs) gone
   keeps_then ps qs gone a b h here stays =
       let n = h.channel.number in
       let dp = departed_in ps in
       let dq = departed_in qs in
       let ds : departed_in (ps ++ qs) ≡ dp ++ dq = filter_map-append departed_by ps qs in
-      let stays_on : has n (dq ++ (dp ++ gone)) ≡ false = sym (ap (λ (xs : List ℕ). has n (xs ++ gone)) ds ∙ has_turn n dp dq gone) ∙ stays in
+      let stays_on : has n (dq ++ (dp ++ gone)) ≡ false =
+      sym (ap (λ (xs : List ℕ). has n (xs ++ gone)) ds ∙ has_turn n dp dq gone) ∙ stays in
       let before : has n (dp ++ gone) ≡ false = (or_parts (has n dq) (has n (dp ++ gone))
       (sym (any_append (λ j. j == n) dq (dp ++ gone)) ∙ stays_on)).1 in
       all_append (Spares h.channel.slot) ps qs (a h here before) (b h here stays_on)
 
-  keeps_each : {A : Type 0} (act : List ℕ → A → List Part) → ((gone : List ℕ) (x : A) → Keeps (act gone x) gone) → (gone : List ℕ) (xs : List A)
+  keeps_each : {A : Type 0} (act : List ℕ → A → List Part) → ((gone : List ℕ) (x : A) → Keeps (act gone x) gone)
+      → (gone : List ℕ) (xs : List A)
       → Keeps (in_turn act gone xs) gone
   keeps_each act f gone [] h here stays = tt
   keeps_each act f gone (x ∷ xs) h here stays =
       let next = departed_in (act gone x) ++ gone in
       keeps_then (act gone x) (in_turn act next xs) gone (f gone x) (keeps_each act f next xs) h here stays
 
-  end_other : (gone : List ℕ) (slot k : ℕ) (name : EndName) → (slot == k) ≡ false → AllOf (Spares k) (end_of now gone slot name)
+  end_other : (gone : List ℕ) (slot k : ℕ) (name : EndName) → (slot == k) ≡ false
+      → AllOf (Spares k) (end_of now gone slot name)
   end_other gone slot k name ne =
       let ds = in_turn (depart now) gone (channels_of now slot) in
-      all_append (Spares k) ds (Ends slot name ∷ []) (still_on k ds (still_turn (depart now) still_depart gone (channels_of now slot))) (ne, tt)
+      all_append (Spares k) ds (Ends slot name ∷ [])
+      (still_on k ds (still_turn (depart now) still_depart gone (channels_of now slot))) (ne, tt)
 
   pub keeps_end : (gone : List ℕ) (slot : ℕ) (name : EndName) → Keeps (end_of now gone slot name) gone
   keeps_end gone slot name h here stays =
@@ -220,7 +239,8 @@ module _ (now : Now) where
       elim (eqb_tells slot h.channel.slot) [
         | inl t ↦
             let gone_now : has n (departed_in ps ++ gone) ≡ true =
-            any_append (λ j. j == n) (departed_in ps) gone ∙ or_left (has n (departed_in ps)) _ (end_has gone slot name h here (sym t.1)) in
+            any_append (λ j. j == n) (departed_in ps) gone
+            ∙ or_left (has n (departed_in ps)) _ (end_has gone slot name h here (sym t.1)) in
             absurd (let k : true ≡ false = sym gone_now ∙ stays in cc)
         | inr t ↦ end_other gone slot h.channel.slot name t.0
       ]
@@ -235,16 +255,19 @@ module _ (now : Now) where
       let ended = filter (has_run_out moment) (channels_of now slot) in
       let reason = codes "token expired" in
       let all : Keeps (tick_parts now moment gone (slot, Some o)) gone = elim (is_idle moment o) as
-      (λ t. Keeps (elim t [ true ↦ end_of now gone slot end_name.Idle | false ↦ in_turn (fail now reason) gone ended ]) gone) [
+      (λ t. Keeps (elim t [ true ↦ end_of now gone slot end_name.Idle | false ↦ in_turn (fail now reason) gone ended ])
+      gone) [
         | true ↦ keeps_end gone slot end_name.Idle
-        | false ↦ keeps_still (in_turn (fail now reason) gone ended) gone (still_turn (fail now reason) (still_fail reason) gone ended)
+        | false ↦ keeps_still (in_turn (fail now reason) gone ended) gone
+            (still_turn (fail now reason) (still_fail reason) gone ended)
       ] in
       all h here stays
 
   pub keeps_ticks : (moment : ℕ) (xs : List (ℕ × Option Opening)) → Keeps (in_turn (tick_parts now moment) [] xs) []
   keeps_ticks moment xs = keeps_each (tick_parts now moment) (keeps_tick moment) [] xs
 
-  end_if_other : (slot k : ℕ) (name : EndName) (o : Option Opening) → (slot == k) ≡ false → AllOf (Spares k) (end_if_open now slot name o)
+  end_if_other : (slot k : ℕ) (name : EndName) (o : Option Opening) → (slot == k) ≡ false
+      → AllOf (Spares k) (end_if_open now slot name o)
   end_if_other slot k name None ne = tt
   end_if_other slot k name (Some o) ne = end_other [] slot k name ne
 
@@ -261,27 +284,37 @@ module _ (now : Now) where
               let held_open = open_slots h here in
               let is : opening_in now slot ≡ Some held_open.0 = ap (opening_in now) t.1 ∙ held_open.1 in
               let departs : has n (departed_in front) ≡ true =
-              ap (λ (x : Option Opening). has n (departed_in (ended x))) is ∙ end_has [] slot end_name.Replaced h here (sym t.1) in
+              ap (λ (x : Option Opening). has n (departed_in (ended x))) is
+              ∙ end_has [] slot end_name.Replaced h here (sym t.1) in
               let all : has n (departed_in (front ++ Opens slot o ∷ last)) ≡ true =
               has_append n front (Opens slot o ∷ last) ∙ or_left (has n (departed_in front)) _ departs in
-              absurd (let z : true ≡ false = sym all ∙ sym (ap (has n) (append-nil (departed_in (front ++ Opens slot o ∷ last)))) ∙ stays in cc)
+              absurd (let z : true ≡ false = sym all
+              ∙ sym (ap (has n) (append-nil (departed_in (front ++ Opens slot o ∷ last)))) ∙ stays in cc)
           | inr t ↦
-              all_append (Spares k) front (Opens slot o ∷ last) (end_if_other slot k end_name.Replaced (opening_in now slot) t.0)
-              (t.0, elim now.stopped as (λ b. AllOf (Spares k) (if b then Ends slot end_name.Stopped ∷ [] else [])) [ true ↦ (t.0, tt) | false ↦ tt ])
+              all_append (Spares k) front (Opens slot o ∷ last)
+              (end_if_other slot k end_name.Replaced (opening_in now slot) t.0) (
+                t.0,
+                elim now.stopped as (λ b. AllOf (Spares k) (if b then Ends slot end_name.Stopped ∷ [] else []))
+                    [ true ↦ (t.0, tt) | false ↦ tt ],
+              )
         ]
 
-    departs_has : (gs : List Member) (h : Member) → Among gs h → has h.channel.number (departed_in (map departs_of gs)) ≡ true
+    departs_has : (gs : List Member) (h : Member) → Among gs h → has h.channel.number (departed_in (map departs_of gs))
+        ≡ true
     departs_has [] h i = absurd i
     departs_has (g ∷ gs) h (inl e) = or_left (g.channel.number == h.channel.number) _
         (ap (λ (m : Member). m.channel.number == h.channel.number) e ∙ eqb_same h.channel.number)
     departs_has (g ∷ gs) h (inr i) = or_right (g.channel.number == h.channel.number) _ (departs_has gs h i)
 
-    flat_has : {A : Type 0} (n : ℕ) (f : A → List Part) (xs : List A) (x : A) → Among xs x → has n (departed_in (f x)) ≡ true
+    flat_has : {A : Type 0} (n : ℕ) (f : A → List Part) (xs : List A) (x : A) → Among xs x
+        → has n (departed_in (f x)) ≡ true
         → has n (departed_in (flat_map f xs)) ≡ true
     flat_has n f [] x i e = absurd i
     flat_has {A} n f (y ∷ ys) x (inl k) e =
-        has_append n (f y) (flat_map f ys) ∙ or_left (has n (departed_in (f y))) _ (ap (λ (z : A). has n (departed_in (f z))) k ∙ e)
-    flat_has n f (y ∷ ys) x (inr i) e = has_append n (f y) (flat_map f ys) ∙ or_right (has n (departed_in (f y))) _ (flat_has n f ys x i e)
+        has_append n (f y) (flat_map f ys)
+        ∙ or_left (has n (departed_in (f y))) _ (ap (λ (z : A). has n (departed_in (f z))) k ∙ e)
+    flat_has n f (y ∷ ys) x (inr i) e = has_append n (f y) (flat_map f ys)
+        ∙ or_right (has n (departed_in (f y))) _ (flat_has n f ys x i e)
 
     -- at a stop every member departs
     pub stop_has : (h : Member) → Among now.members h
@@ -297,4 +330,5 @@ module _ (now : Now) where
         let own = filter_among (is_of_slot slot) now.members h here (eqb_same slot) in
         let ds = map departs_of (channels_of now slot) in
         flat_has n (stop_parts now) (enumerate_from 0 now.opens) (slot, Some held_open.0) there
-        (has_append n ds (Ends slot end_name.Stopped ∷ []) ∙ or_left (has n (departed_in ds)) _ (departs_has (channels_of now slot) h own))
+        (has_append n ds (Ends slot end_name.Stopped ∷ [])
+        ∙ or_left (has n (departed_in ds)) _ (departs_has (channels_of now slot) h own))

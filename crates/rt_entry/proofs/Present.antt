@@ -1,5 +1,6 @@
 -- What is present in every journal.
-use Rattle.std.proofs.Common.{◌≡◌, ℕ, suc, ◌<◌, Bool, true, false, ◌||◌, List, [], ◌∷◌, length, refl, ap, subst, inl, inr}
+use Rattle.std.proofs.Common.{◌≡◌, ℕ, suc, ◌<◌, Bool, true, false, ◌||◌, List, [], ◌∷◌, length, refl, ap, subst, inl}
+use Rattle.std.proofs.Common.{inr}
 use Rattle.std.specs.Prelude.{◌==◌, Contains}
 use Rattle.std.specs.List.{list_any}
 use Rattle.std.proofs.lemmas.Bool.{eqb-true}
@@ -20,7 +21,8 @@ use Rattle.rt_entry.proofs.Journals.{story_shaped, story_length}
 use Rattle.rt_catalog.proofs.Closed.{any_found}
 
 -- whose channel is a member
-holder : (st : Story) (t : Track) → Among (present_at st) t → (h : Member) × Among (members_in st) h × (h.channel.number ≡ t.channel)
+holder : (st : Story) (t : Track) → Among (present_at st) t
+    → (h : Member) × Among (members_in st) h × (h.channel.number ≡ t.channel)
 unfolding present_at
 holder st t a =
     let held : Track → Bool = λ u. list_any (λ (ch : Channel). ch.number == u.channel) (members_at st) in
@@ -29,28 +31,33 @@ holder st t a =
     (member_in st r.0, map_among (member_in st) (members_at st) r.0 r.1, eqb-true r.0.number t.channel r.2)
 
 module _ (c : Catalog) (s : Settings) where
-  pub track_once : (journal : List Input) (t u : Track) → Contains (tracks_of_journal c s journal) t → Contains (tracks_of_journal c s journal) u
+  pub track_once : (journal : List Input) (t u : Track) → Contains (tracks_of_journal c s journal) t
+      → Contains (tracks_of_journal c s journal) u
       → t.channel ≡ u.channel → t ≡ u
   unfolding now_of
   track_once journal t u a b e =
       let st = story c s journal in
-      (is_present st (story_shaped c s journal)).channels t u (from_contains (present_at st) t a) (from_contains (present_at st) u b) e
+      (is_present st (story_shaped c s journal)).channels t u (from_contains (present_at st) t a)
+      (from_contains (present_at st) u b) e
 
   pub references_apart : (journal : List Input) (t u : Track) → Contains (tracks_of_journal c s journal) t
       → Contains (tracks_of_journal c s journal) u → t.reference ≡ u.reference → t ≡ u
   unfolding now_of
   references_apart journal t u a b e =
       let st = story c s journal in
-      (is_present st (story_shaped c s journal)).references t u (from_contains (present_at st) t a) (from_contains (present_at st) u b) e
+      (is_present st (story_shaped c s journal)).references t u (from_contains (present_at st) t a)
+      (from_contains (present_at st) u b) e
 
-  pub tracks_members : (journal : List Input) (t : Track) → Contains (tracks_of_journal c s journal) t → IsMembers c s journal t
+  pub tracks_members : (journal : List Input) (t : Track) → Contains (tracks_of_journal c s journal) t
+      → IsMembers c s journal t
   unfolding now_of
   tracks_members journal t a =
       let st = story c s journal in
       let here = from_contains (present_at st) t a in
       let g = is_present st (story_shaped c s journal) in
       let r = holder st t here in
-      let small : t.reference < length st = all_among (λ (u : Track). u.reference < length st) (present_at st) t g.small here in
+      let small : t.reference < length st =
+      all_among (λ (u : Track). u.reference < length st) (present_at st) t g.small here in
       let P : ℕ → Type 0 = λ n. t.reference < n in
       record {
         member = r.0;

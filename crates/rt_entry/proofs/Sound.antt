@@ -1,5 +1,7 @@
 -- Every line of a journal's story is sound.
-use Rattle.std.proofs.Common.{◌≡◌, ◌⊎◌, ℕ, ◌+◌, ◌<◌, ◌≤◌, Bool, true, false, ◌||◌, ◌&&◌, not, cond, List, [], ◌∷◌, ◌++◌, map, length, Option, Some, None, refl, sym, ap, subst, ◌∙◌, append-nil, arith, inl, inr, eqb}
+use Rattle.std.proofs.Common.{◌≡◌, ◌⊎◌, ℕ, ◌+◌, ◌<◌, ◌≤◌, Bool, true, false, ◌||◌, ◌&&◌, not, cond, List, [], ◌∷◌, ◌++◌}
+use Rattle.std.proofs.Common.{map, length, Option, Some, None, refl, sym, ap, subst, ◌∙◌, append-nil, arith, inl, inr}
+use Rattle.std.proofs.Common.{eqb}
 use Rattle.std.specs.Prelude.{⊤, ◌==◌}
 use Rattle.std.specs.List.{filter, filter_map, flat_map, list_any}
 use Rattle.std.proofs.lemmas.Bool.Decides.{nat_tests, eqb_tells}
@@ -12,9 +14,12 @@ use Rattle.rt_entry.specs.declared.story.Member.{Member}
 use Rattle.rt_entry.specs.declared.story.Track.{Track}
 use Rattle.rt_entry.specs.declared.story.Part.{Part}
 use Rattle.rt_entry.specs.declared.story.Part.TheVariants.{Opens, Ends, Tells, Joins, Renews, Tracks, Untracks, Departs}
-use Rattle.rt_entry.specs.Story.{Line, Story, joined, joined_by, departed, departed_by, departed_in, renewed_by, first_or, has, members_at, member_in, standing_at, ids_given, tracked_by, all_tracks, is_last, standing_tracks}
+use Rattle.rt_entry.specs.Story.{Line, Story, joined, joined_by, departed, departed_by, departed_in, renewed_by}
+use Rattle.rt_entry.specs.Story.{first_or, has, members_at, member_in, standing_at, ids_given, tracked_by, all_tracks}
+use Rattle.rt_entry.specs.Story.{is_last, standing_tracks}
 use Rattle.rt_entry.specs.After.{joins_of, new_member, with_standing, tracks_in}
-use Rattle.rt_entry.proofs.Shapes.{Plain, Quiet, Below, IsNext, Shape, plain, joining, tracking, MakesRoom, AreApart, IsOfMember, fine_for}
+use Rattle.rt_entry.proofs.Shapes.{Plain, Quiet, Below, IsNext, Shape, plain, joining, tracking, MakesRoom, AreApart}
+use Rattle.rt_entry.proofs.Shapes.{IsOfMember, fine_for}
 use Rattle.rt_entry.proofs.Grows.{Tagged, is_held, IsSound, remains_by, joined_grows, members_grow}
 use Rattle.rt_presence.proofs.Agree.{or_none}
 
@@ -40,7 +45,8 @@ plain_has b n m (Joins c ∷ ps) le h = absurd h.0
 plain_has b n m (Renews k x ∷ ps) le h = plain_has b n m ps le h.1
 plain_has b n m (Tracks t ∷ ps) le h = absurd h.0
 plain_has b n m (Untracks k ∷ ps) le h = plain_has b n m ps le h.1
-plain_has b n m (Departs k ∷ ps) le h = let lt = h.0 in let e : eqb k m ≡ false = grind (arith, nat_tests) in rw e (plain_has b n m ps le h.1)
+plain_has b n m (Departs k ∷ ps) le h = let lt = h.0 in let e : eqb k m ≡ false = grind (arith, nat_tests) in
+    rw e (plain_has b n m ps le h.1)
 
 plain_renews : (b : Bool) (n m : ℕ) (ps : List Part) → n ≤ m → AllOf (Plain b n) ps → filter_map (renewed_by m) ps ≡ []
 plain_renews b n m [] le h = refl
@@ -55,7 +61,8 @@ plain_renews b n m (Untracks k ∷ ps) le h = plain_renews b n m ps le h.1
 plain_renews b n m (Departs k ∷ ps) le h = plain_renews b n m ps le h.1
 
 -- the tracks behind plain parts
-plain_tracks : (b : Bool) (n : ℕ) (ps qs : List Part) → AllOf (Plain b n) ps → standing_tracks (tracks_in (ps ++ qs)) ≡ standing_tracks (tracks_in qs)
+plain_tracks : (b : Bool) (n : ℕ) (ps qs : List Part) → AllOf (Plain b n) ps
+    → standing_tracks (tracks_in (ps ++ qs)) ≡ standing_tracks (tracks_in qs)
 plain_tracks b n [] qs h = refl
 plain_tracks b n (Opens s o ∷ ps) qs h = plain_tracks b n ps qs h.1
 plain_tracks b n (Ends s e ∷ ps) qs h = plain_tracks b n ps qs h.1
@@ -100,62 +107,80 @@ quiet_tracks b (Tracks t ∷ ps) h = absurd h.0
 quiet_tracks b (Untracks k ∷ ps) h = absurd h.0
 quiet_tracks b (Departs k ∷ ps) h = absurd h.0
 
-pub has_append : (m : ℕ) (ps qs : List Part) → has m (departed_in (ps ++ qs)) ≡ (has m (departed_in ps) || has m (departed_in qs))
-has_append m ps qs = ap (has m) (filter_map-append departed_by ps qs) ∙ any_append (λ j. j == m) (departed_in ps) (departed_in qs)
+pub has_append : (m : ℕ) (ps qs : List Part)
+    → has m (departed_in (ps ++ qs)) ≡ (has m (departed_in ps) || has m (departed_in qs))
+has_append m ps qs = ap (has m) (filter_map-append departed_by ps qs)
+    ∙ any_append (λ j. j == m) (departed_in ps) (departed_in qs)
 
-around_has : (b : Bool) (n m : ℕ) (front : List Part) (p : Part) (back : List Part) → n ≤ m → AllOf (Plain b n) front → AllOf (Plain b n) back
+around_has : (b : Bool) (n m : ℕ) (front : List Part) (p : Part) (back : List Part) → n ≤ m → AllOf (Plain b n) front
+    → AllOf (Plain b n) back
     → departed_in (p ∷ back) ≡ departed_in back → has m (departed_in (front ++ p ∷ back)) ≡ false
 around_has b n m front p back le f g e =
-    has_append m front (p ∷ back) ∙ ap (λ t. t || has m (departed_in (p ∷ back))) (plain_has b n m front le f) ∙ ap (has m) e
+    has_append m front (p ∷ back) ∙ ap (λ t. t || has m (departed_in (p ∷ back))) (plain_has b n m front le f)
+    ∙ ap (has m) e
     ∙ plain_has b n m back le g
 
-around_renews : (b : Bool) (n m : ℕ) (front : List Part) (p : Part) (back : List Part) → n ≤ m → AllOf (Plain b n) front → AllOf (Plain b n) back
+around_renews : (b : Bool) (n m : ℕ) (front : List Part) (p : Part) (back : List Part) → n ≤ m → AllOf (Plain b n) front
+    → AllOf (Plain b n) back
     → filter_map (renewed_by m) (p ∷ back) ≡ filter_map (renewed_by m) back
     → filter_map (renewed_by m) (front ++ p ∷ back) ≡ []
 around_renews b n m front p back le f g e =
-    filter_map-append (renewed_by m) front (p ∷ back) ∙ ap (λ xs. xs ++ filter_map (renewed_by m) (p ∷ back)) (plain_renews b n m front le f) ∙ e
+    filter_map-append (renewed_by m) front (p ∷ back)
+    ∙ ap (λ xs. xs ++ filter_map (renewed_by m) (p ∷ back)) (plain_renews b n m front le f) ∙ e
     ∙ plain_renews b n m back le g
 
-shape_has : {ids : ℕ} (b : Bool) (n m : ℕ) (hs : List Member) (ps : List Part) → n ≤ m → Shape b n ids hs ps → has m (departed_in ps) ≡ false
+shape_has : {ids : ℕ} (b : Bool) (n m : ℕ) (hs : List Member) (ps : List Part) → n ≤ m → Shape b n ids hs ps
+    → has m (departed_in ps) ≡ false
 shape_has b n m hs ps le (plain h) = plain_has b n m ps le h
 shape_has b n m hs ps le (joining front ch back f g k room e) =
     ap (λ qs. has m (departed_in qs)) e ∙ around_has b n m front (Joins ch) back le f g refl
 shape_has b n m hs ps le (tracking front t back f g k lt own e) =
-    ap (λ qs. has m (departed_in qs)) e ∙ around_has b n m front (Tracks t) back le (quiet_front b n front f) (quiet_front b n back g) refl
+    ap (λ qs. has m (departed_in qs)) e
+    ∙ around_has b n m front (Tracks t) back le (quiet_front b n front f) (quiet_front b n back g) refl
 
-shape_renews : {ids : ℕ} (b : Bool) (n m : ℕ) (hs : List Member) (ps : List Part) → n ≤ m → Shape b n ids hs ps → filter_map (renewed_by m) ps ≡ []
+shape_renews : {ids : ℕ} (b : Bool) (n m : ℕ) (hs : List Member) (ps : List Part) → n ≤ m → Shape b n ids hs ps
+    → filter_map (renewed_by m) ps ≡ []
 shape_renews b n m hs ps le (plain h) = plain_renews b n m ps le h
 shape_renews b n m hs ps le (joining front ch back f g k room e) =
     ap (filter_map (renewed_by m)) e ∙ around_renews b n m front (Joins ch) back le f g refl
 shape_renews b n m hs ps le (tracking front t back f g k lt own e) =
-    ap (filter_map (renewed_by m)) e ∙ around_renews b n m front (Tracks t) back le (quiet_front b n front f) (quiet_front b n back g) refl
+    ap (filter_map (renewed_by m)) e
+    ∙ around_renews b n m front (Tracks t) back le (quiet_front b n front f) (quiet_front b n back g) refl
 
-around_joins : (b : Bool) (n : ℕ) (front : List Part) (p : Part) (back : List Part) → AllOf (Plain b n) front → AllOf (Plain b n) back
+around_joins : (b : Bool) (n : ℕ) (front : List Part) (p : Part) (back : List Part) → AllOf (Plain b n) front
+    → AllOf (Plain b n) back
     → joins_of (front ++ p ∷ back) ≡ joins_of (p ∷ [])
 around_joins b n front p back f g =
     filter_map-append joined_by front (p ∷ back) ∙ ap (λ xs. xs ++ joins_of (p ∷ back)) (plain_joins b n front f)
-    ∙ filter_map-append joined_by (p ∷ []) back ∙ ap (λ xs. joins_of (p ∷ []) ++ xs) (plain_joins b n back g) ∙ append-nil (joins_of (p ∷ []))
+    ∙ filter_map-append joined_by (p ∷ []) back ∙ ap (λ xs. joins_of (p ∷ []) ++ xs) (plain_joins b n back g)
+    ∙ append-nil (joins_of (p ∷ []))
 
 shape_joins : {ids : ℕ} (b : Bool) (n : ℕ) (hs : List Member) (ps : List Part) → Shape b n ids hs ps
     → (joins_of ps ≡ []) ⊎ ((ch : Channel) × (joins_of ps ≡ ch ∷ []) × IsNext n ids ch)
 shape_joins b n hs ps (plain h) = inl (plain_joins b n ps h)
-shape_joins b n hs ps (joining front ch back f g k room e) = inr (ch, ap joins_of e ∙ around_joins b n front (Joins ch) back f g, k)
+shape_joins b n hs ps (joining front ch back f g k room e) =
+    inr (ch, ap joins_of e ∙ around_joins b n front (Joins ch) back f g, k)
 shape_joins b n hs ps (tracking front t back f g k lt own e) =
     inl (ap joins_of e ∙ around_joins b n front (Tracks t) back (quiet_front b n front f) (quiet_front b n back g))
 
 -- either nothing new stands, or one track of a member, and nobody departs or joins
 pub shape_tracks : {ids : ℕ} (b : Bool) (n : ℕ) (hs : List Member) (ps : List Part) → Shape b n ids hs ps
     → (standing_tracks (tracks_in ps) ≡ [])
-    ⊎ ((t : Track) × (tracks_in ps ≡ (t.channel, Some t) ∷ []) × (departed_in ps ≡ []) × (list_any (λ (h : Member). h.channel.number == t.channel) hs ≡ true) × (t.channel < n) × IsOfMember n hs t)
-shape_tracks b n hs ps (plain h) = inl (ap (λ qs. standing_tracks (tracks_in qs)) (sym (append-nil ps)) ∙ plain_tracks b n ps [] h)
+    ⊎ ((t : Track) × (tracks_in ps ≡ (t.channel, Some t) ∷ []) × (departed_in ps ≡ [])
+    × (list_any (λ (h : Member). h.channel.number == t.channel) hs ≡ true) × (t.channel < n) × IsOfMember n hs t)
+shape_tracks b n hs ps (plain h) = inl (ap (λ qs. standing_tracks (tracks_in qs)) (sym (append-nil ps))
+    ∙ plain_tracks b n ps [] h)
 shape_tracks b n hs ps (joining front ch back f g k room e) =
-    inl (ap (λ qs. standing_tracks (tracks_in qs)) e ∙ plain_tracks b n front (Joins ch ∷ back) f ∙ ap (λ qs. standing_tracks (tracks_in qs)) (sym (append-nil back)) ∙ plain_tracks b n back [] g)
+    inl (ap (λ qs. standing_tracks (tracks_in qs)) e ∙ plain_tracks b n front (Joins ch ∷ back) f
+    ∙ ap (λ qs. standing_tracks (tracks_in qs)) (sym (append-nil back)) ∙ plain_tracks b n back [] g)
 shape_tracks b n hs ps (tracking front t back f g k lt own e) =
     inr (
       t,
       ap tracks_in e ∙ flat_map-append tracked_by front (Tracks t ∷ back)
-          ∙ ap (λ xs. xs ++ (t.channel, Some t) ∷ tracks_in back) (quiet_tracks b front f) ∙ ap (λ xs. (t.channel, Some t) ∷ xs) (quiet_tracks b back g),
-      ap departed_in e ∙ filter_map-append departed_by front (Tracks t ∷ back) ∙ ap (λ xs. xs ++ departed_in back) (quiet_departs b front f)
+          ∙ ap (λ xs. xs ++ (t.channel, Some t) ∷ tracks_in back) (quiet_tracks b front f)
+          ∙ ap (λ xs. (t.channel, Some t) ∷ xs) (quiet_tracks b back g),
+      ap departed_in e ∙ filter_map-append departed_by front (Tracks t ∷ back)
+          ∙ ap (λ xs. xs ++ departed_in back) (quiet_departs b front f)
           ∙ quiet_departs b back g,
       k,
       lt,
@@ -168,21 +193,24 @@ members_in st = map (member_in st) (members_at st)
 
 abbrev pub Shaped : Story → Type 0
 Shaped [] = ⊤
-Shaped (l ∷ before) = Shape (fine_for l.input) (length before) (ids_given before) (members_in before) l.parts × Shaped before
+Shaped (l ∷ before) = Shape (fine_for l.input) (length before) (ids_given before) (members_in before) l.parts
+    × Shaped before
 
 shaped_has : (st : Story) (m : ℕ) → length st ≤ m → Shaped st → has m (departed st) ≡ false
 unfolding departed
 shaped_has [] m le h = refl
 shaped_has (l ∷ before) m le h =
     any_append (λ j. j == m) (departed_in l.parts) (departed before)
-    ∙ ap (λ t. t || has m (departed before)) (shape_has (fine_for l.input) (length before) m (members_in before) l.parts (omega arith) h.0)
+    ∙ ap (λ t. t || has m (departed before))
+    (shape_has (fine_for l.input) (length before) m (members_in before) l.parts (omega arith) h.0)
     ∙ shaped_has before m (omega arith) h.1
 
 shaped_claims : (st : Story) (ch : Channel) → length st ≤ ch.number → Shaped st
     → flat_map (λ (k : Line). filter_map (renewed_by ch.number) k.parts) st ≡ []
 shaped_claims [] ch le h = refl
 shaped_claims (l ∷ before) ch le h =
-    ap (λ xs. xs ++ flat_map (λ (k : Line). filter_map (renewed_by ch.number) k.parts) before) (shape_renews (fine_for l.input) (length before) ch.number (members_in before) l.parts (omega arith) h.0)
+    ap (λ xs. xs ++ flat_map (λ (k : Line). filter_map (renewed_by ch.number) k.parts) before)
+    (shape_renews (fine_for l.input) (length before) ch.number (members_in before) l.parts (omega arith) h.0)
     ∙ shaped_claims before ch (omega arith) h.1
 
 claims_first : (st : Story) (ch : Channel) → flat_map (λ (k : Line). filter_map (renewed_by ch.number) k.parts) st ≡ []
@@ -190,18 +218,22 @@ claims_first : (st : Story) (ch : Channel) → flat_map (λ (k : Line). filter_m
 unfolding standing_at
 claims_first st ch e = ap (first_or ch.standing) e
 
-has_line : (l : Line) (before : Story) (m : ℕ) → length before ≤ m → Shaped (l ∷ before) → has m (departed (l ∷ before)) ≡ false
+has_line : (l : Line) (before : Story) (m : ℕ) → length before ≤ m → Shaped (l ∷ before)
+    → has m (departed (l ∷ before)) ≡ false
 unfolding departed
 has_line l before m le h =
     any_append (λ j. j == m) (departed_in l.parts) (departed before)
-    ∙ ap (λ t. t || has m (departed before)) (shape_has (fine_for l.input) (length before) m (members_in before) l.parts le h.0)
+    ∙ ap (λ t. t || has m (departed before))
+    (shape_has (fine_for l.input) (length before) m (members_in before) l.parts le h.0)
     ∙ shaped_has before m le h.1
 
 claims_line : (l : Line) (before : Story) (ch : Channel) → length before ≤ ch.number → Shaped (l ∷ before)
     → standing_at (l ∷ before) ch ≡ ch.standing
 claims_line l before ch le h =
     claims_first (l ∷ before) ch
-    (ap (λ xs. xs ++ flat_map (λ (k : Line). filter_map (renewed_by ch.number) k.parts) before) (shape_renews (fine_for l.input) (length before) ch.number (members_in before) l.parts le h.0) ∙ shaped_claims before ch le h.1)
+    (ap (λ xs. xs ++ flat_map (λ (k : Line). filter_map (renewed_by ch.number) k.parts) before)
+    (shape_renews (fine_for l.input) (length before) ch.number (members_in before) l.parts le h.0)
+    ∙ shaped_claims before ch le h.1)
 
 -- who joins
 pub record JoinsWell (l : Line) (before : Story) (js : List Channel) : Type 0 where
@@ -256,10 +288,12 @@ joined_below (l ∷ before) h =
 
 pub members_below : (st : Story) → Shaped st → AllOf (IsBelow (length st)) (members_at st)
 unfolding members_at
-members_below st h = all_filter (IsBelow (length st)) (λ ch. not (has ch.number (departed st))) (joined st) (joined_below st h)
+members_below st h = all_filter (IsBelow (length st)) (λ ch. not (has ch.number (departed st))) (joined st)
+    (joined_below st h)
 
 pub held_below : (st : Story) → Shaped st → AllOf (Below (length st)) (members_in st)
-held_below st h = all_map_of (Below (length st)) (IsBelow (length st)) (member_in st) (members_at st) (λ ch lt. lt) (members_below st h)
+held_below st h = all_map_of (Below (length st)) (IsBelow (length st)) (member_in st) (members_at st) (λ ch lt. lt)
+    (members_below st h)
 
 -- tracks and their channels
 
@@ -290,9 +324,11 @@ pub all_tagged : (st : Story) → AllOf Tagged (all_tracks st)
 all_tagged [] = let P : List (ℕ × Option Track) → Type 0 = AllOf Tagged in subst P (sym no_tracks) tt
 all_tagged (l ∷ before) =
     let P : List (ℕ × Option Track) → Type 0 = AllOf Tagged in
-    subst P (sym (all_tracks_more l before)) (all_append Tagged (all_tracks before) (tracks_in l.parts) (all_tagged before) (tagged_parts l.parts))
+    subst P (sym (all_tracks_more l before))
+    (all_append Tagged (all_tracks before) (tracks_in l.parts) (all_tagged before) (tagged_parts l.parts))
 
-plain_track_below : (b : Bool) (n m : ℕ) (ps qs : List Part) → AllOf (Plain b n) ps → AllOf (TrackBelow m) (tracks_in qs)
+plain_track_below : (b : Bool) (n m : ℕ) (ps qs : List Part) → AllOf (Plain b n) ps
+    → AllOf (TrackBelow m) (tracks_in qs)
     → AllOf (TrackBelow m) (tracks_in (ps ++ qs))
 plain_track_below b n m [] qs h g = g
 plain_track_below b n m (Opens s o ∷ ps) qs h g = plain_track_below b n m ps qs h.1 g
@@ -304,15 +340,19 @@ plain_track_below b n m (Tracks t ∷ ps) qs h g = absurd h.0
 plain_track_below b n m (Untracks k ∷ ps) qs h g = (tt, plain_track_below b n m ps qs h.1 g)
 plain_track_below b n m (Departs k ∷ ps) qs h g = plain_track_below b n m ps qs h.1 g
 
-shape_track_below : {ids : ℕ} (b : Bool) (n m : ℕ) (hs : List Member) (ps : List Part) → n ≤ m → Shape b n ids hs ps → AllOf (TrackBelow m) (tracks_in ps)
+shape_track_below : {ids : ℕ} (b : Bool) (n m : ℕ) (hs : List Member) (ps : List Part) → n ≤ m → Shape b n ids hs ps
+    → AllOf (TrackBelow m) (tracks_in ps)
 shape_track_below b n m hs ps le (plain h) =
-    let P : List Part → Type 0 = λ qs. AllOf (TrackBelow m) (tracks_in qs) in subst P (append-nil ps) (plain_track_below b n m ps [] h tt)
+    let P : List Part → Type 0 = λ qs. AllOf (TrackBelow m) (tracks_in qs) in
+    subst P (append-nil ps) (plain_track_below b n m ps [] h tt)
 shape_track_below b n m hs ps le (joining front ch back f g k room e) =
     let P : List Part → Type 0 = λ qs. AllOf (TrackBelow m) (tracks_in qs) in
-    subst P (sym e) (plain_track_below b n m front (Joins ch ∷ back) f (subst P (append-nil back) (plain_track_below b n m back [] g tt)))
+    subst P (sym e) (plain_track_below b n m front (Joins ch ∷ back) f
+    (subst P (append-nil back) (plain_track_below b n m back [] g tt)))
 shape_track_below b n m hs ps le (tracking front t back f g k lt own e) =
     let P : List Part → Type 0 = λ qs. AllOf (TrackBelow m) (tracks_in qs) in
-    subst P (sym e) (plain_track_below b n m front (Tracks t ∷ back) (quiet_front b n front f) (omega arith, subst P (append-nil back) (plain_track_below b n m back [] (quiet_front b n back g) tt)))
+    subst P (sym e) (plain_track_below b n m front (Tracks t ∷ back) (quiet_front b n front f)
+    (omega arith, subst P (append-nil back) (plain_track_below b n m back [] (quiet_front b n back g) tt)))
 
 below_more : (n m : ℕ) → n ≤ m → (x : ℕ × Option Track) → TrackBelow n x → TrackBelow m x
 below_more n m le (k, None) h = tt
@@ -326,14 +366,17 @@ tracks_below (l ∷ before) h =
     let P : List (ℕ × Option Track) → Type 0 = AllOf (TrackBelow m) in
     subst P (sym (all_tracks_more l before))
     (all_append (TrackBelow m) (all_tracks before) (tracks_in l.parts)
-    (all_weaker (TrackBelow n) (TrackBelow m) (all_tracks before) (below_more n m (omega arith)) (tracks_below before h.1))
+    (all_weaker (TrackBelow n) (TrackBelow m) (all_tracks before) (below_more n m (omega arith))
+    (tracks_below before h.1))
     (shape_track_below (fine_for l.input) n m (members_in before) l.parts (omega arith) h.0))
 
-standing_below : (n : ℕ) (xs : List (ℕ × Option Track)) → AllOf (TrackBelow n) xs → AllOf (λ (t : Track). t.channel < n) (standing_tracks xs)
+standing_below : (n : ℕ) (xs : List (ℕ × Option Track)) → AllOf (TrackBelow n) xs
+    → AllOf (λ (t : Track). t.channel < n) (standing_tracks xs)
 standing_below n [] a = tt
 standing_below n ((k, None) ∷ xs) a = standing_below n xs a.1
 standing_below n ((k, Some t) ∷ xs) a =
-    elim (is_last k xs) as (λ b. AllOf (λ (u : Track). u.channel < n) (elim b [ true ↦ t ∷ standing_tracks xs | false ↦ standing_tracks xs ])) [
+    elim (is_last k xs) as (λ b. AllOf (λ (u : Track). u.channel < n)
+    (elim b [ true ↦ t ∷ standing_tracks xs | false ↦ standing_tracks xs ])) [
       | true ↦ (a.0, standing_below n xs a.1)
       | false ↦ standing_below n xs a.1
     ]
@@ -344,11 +387,14 @@ and_false : (a : Bool) → (a && false) ≡ false
 and_false true = refl
 and_false false = refl
 
-kept_any : (k : ℕ) (ds : List ℕ) (ch : Channel) (cs fs : List Channel) (d : Bool) → has k ds ≡ d → ((ch.number == k) ≡ true) × (ch.number ≡ k)
+kept_any : (k : ℕ) (ds : List ℕ) (ch : Channel) (cs fs : List Channel) (d : Bool) → has k ds ≡ d
+    → ((ch.number == k) ≡ true) × (ch.number ≡ k)
     → list_any (λ (x : Channel). x.number == k) fs ≡ (list_any (λ (x : Channel). x.number == k) cs && not (has k ds))
-    → list_any (λ (x : Channel). x.number == k) (cond (not d) (ch ∷ fs) fs) ≡ ((true || list_any (λ (x : Channel). x.number == k) cs) && not d)
+    → list_any (λ (x : Channel). x.number == k) (cond (not d) (ch ∷ fs) fs)
+    ≡ ((true || list_any (λ (x : Channel). x.number == k) cs) && not d)
 kept_any k ds ch cs fs true e t h =
-    h ∙ ap (λ b. list_any (λ (x : Channel). x.number == k) cs && not b) e ∙ and_false (list_any (λ (x : Channel). x.number == k) cs)
+    h ∙ ap (λ b. list_any (λ (x : Channel). x.number == k) cs && not b) e
+    ∙ and_false (list_any (λ (x : Channel). x.number == k) cs)
 kept_any k ds ch cs fs false e t h = ap (λ b. b || list_any (λ (x : Channel). x.number == k) fs) t.0
 
 skipped_any : (k : ℕ) (ch : Channel) (fs : List Channel) (b : Bool) → (ch.number == k) ≡ false
@@ -357,7 +403,8 @@ skipped_any k ch fs true e = ap (λ b. b || list_any (λ (x : Channel). x.number
 skipped_any k ch fs false e = refl
 
 any_kept : (k : ℕ) (ds : List ℕ) (cs : List Channel)
-    → list_any (λ (x : Channel). x.number == k) (filter (λ (x : Channel). not (has x.number ds)) cs) ≡ (list_any (λ (x : Channel). x.number == k) cs && not (has k ds))
+    → list_any (λ (x : Channel). x.number == k) (filter (λ (x : Channel). not (has x.number ds)) cs)
+    ≡ (list_any (λ (x : Channel). x.number == k) cs && not (has k ds))
 any_kept k ds [] = refl
 any_kept k ds (ch ∷ cs) =
     let any : List Channel → Bool = list_any (λ (x : Channel). x.number == k) in
@@ -372,9 +419,11 @@ any_kept k ds (ch ∷ cs) =
           ∙ any_kept k ds cs ∙ ap (λ b. (b || any cs) && not (has k ds)) (sym t.0)
     ]
 
-none_of : (k n : ℕ) (js : List Channel) → k < n → AllOf (λ (ch : Channel). ch.number ≡ n) js → list_any (λ (x : Channel). x.number == k) js ≡ false
+none_of : (k n : ℕ) (js : List Channel) → k < n → AllOf (λ (ch : Channel). ch.number ≡ n) js
+    → list_any (λ (x : Channel). x.number == k) js ≡ false
 none_of k n [] lt a = refl
-none_of k n (ch ∷ js) lt a = let e = a.0 in let t : eqb ch.number k ≡ false = grind (arith, nat_tests) in ap (λ b. b || list_any (λ (x : Channel). x.number == k) js) t ∙ none_of k n js lt a.1
+none_of k n (ch ∷ js) lt a = let e = a.0 in let t : eqb ch.number k ≡ false = grind (arith, nat_tests) in
+    ap (λ b. b || list_any (λ (x : Channel). x.number == k) js) t ∙ none_of k n js lt a.1
 
 pub held_grows : (l : Line) (before : Story) (t : Track) → Shaped (l ∷ before) → t.channel < length before
     → is_held (l ∷ before) t ≡ (is_held before t && not (has t.channel (departed_in l.parts)))
@@ -388,7 +437,8 @@ held_grows l before t h lt =
     ∙ or_none (any kept)
     ∙ any_kept t.channel (departed_in l.parts) (members_at before)
 
-pub any_map : {A B : Type 0} (p : B → Bool) (f : A → B) (xs : List A) → list_any p (map f xs) ≡ list_any (λ x. p (f x)) xs
+pub any_map : {A B : Type 0} (p : B → Bool) (f : A → B) (xs : List A)
+    → list_any p (map f xs) ≡ list_any (λ x. p (f x)) xs
 any_map p f [] = refl
 any_map p f (x ∷ xs) = ap (λ b. p (f x) || b) (any_map p f xs)
 
@@ -403,8 +453,10 @@ new_stands l before h =
           let member : is_held before t ≡ true =
           sym (any_map (λ (m : Member). m.channel.number == t.channel) (member_in before) (members_at before)) ∙ r.3 in
           let held : is_held (l ∷ before) t ≡ true =
-          held_grows l before t h r.4 ∙ ap (λ b. b && not (has t.channel (departed_in l.parts))) member ∙ ap (λ ds. not (has t.channel ds)) r.2 in
-          let Q : List (ℕ × Option Track) → Type 0 = λ xs. filter (is_held (l ∷ before)) (standing_tracks xs) ≡ standing_tracks xs in
+          held_grows l before t h r.4 ∙ ap (λ b. b && not (has t.channel (departed_in l.parts))) member
+          ∙ ap (λ ds. not (has t.channel ds)) r.2 in
+          let Q : List (ℕ × Option Track) → Type 0 = λ xs. filter (is_held (l ∷ before)) (standing_tracks xs)
+          ≡ standing_tracks xs in
           subst Q (sym r.1) (ap (λ b. cond b (t ∷ []) []) held)
     ]
 
@@ -417,22 +469,28 @@ shape_sound l before h =
       claims = w.claims;
       tagged = all_tagged before;
       old =
-          all_weaker (λ t. t.channel < length before) (λ t. is_held (l ∷ before) t ≡ (is_held before t && not (has t.channel (departed_in l.parts)))) (standing_tracks (all_tracks before))
-          (λ t lt. held_grows l before t h lt) (standing_below (length before) (all_tracks before) (tracks_below before h.1));
+          all_weaker (λ t. t.channel < length before) (λ t. is_held (l ∷ before) t
+          ≡ (is_held before t && not (has t.channel (departed_in l.parts)))) (standing_tracks (all_tracks before))
+          (λ t lt. held_grows l before t h lt)
+          (standing_below (length before) (all_tracks before) (tracks_below before h.1));
       new = new_stands l before h;
     }
 
 -- whoever joins finds room
-shape_room : {ids : ℕ} (b : Bool) (n : ℕ) (hs : List Member) (ps : List Part) → Shape b n ids hs ps → AllOf (λ (ch : Channel). MakesRoom hs ch ps) (joins_of ps)
-shape_room b n hs ps (plain h) = let P : List Channel → Type 0 = AllOf (λ (ch : Channel). MakesRoom hs ch ps) in subst P (sym (plain_joins b n ps h)) tt
+shape_room : {ids : ℕ} (b : Bool) (n : ℕ) (hs : List Member) (ps : List Part) → Shape b n ids hs ps
+    → AllOf (λ (ch : Channel). MakesRoom hs ch ps) (joins_of ps)
+shape_room b n hs ps (plain h) = let P : List Channel → Type 0 = AllOf (λ (ch : Channel). MakesRoom hs ch ps) in
+    subst P (sym (plain_joins b n ps h)) tt
 shape_room b n hs ps (joining front ch back f g k room e) =
     let P : List Channel → Type 0 = AllOf (λ (x : Channel). MakesRoom hs x ps) in
     let here : MakesRoom hs ch ps = λ h i sl tp.
-    ap (λ qs. has h.channel.number (departed_in qs)) e ∙ has_append h.channel.number front (Joins ch ∷ back) ∙ ap (λ t. t || has h.channel.number (departed_in (Joins ch ∷ back))) (room h i sl tp) in
+    ap (λ qs. has h.channel.number (departed_in qs)) e ∙ has_append h.channel.number front (Joins ch ∷ back)
+    ∙ ap (λ t. t || has h.channel.number (departed_in (Joins ch ∷ back))) (room h i sl tp) in
     subst P (sym (ap joins_of e ∙ around_joins b n front (Joins ch) back f g)) (here, tt)
 shape_room b n hs ps (tracking front t back f g k lt own e) =
     let P : List Channel → Type 0 = AllOf (λ (ch : Channel). MakesRoom hs ch ps) in
-    subst P (sym (ap joins_of e ∙ around_joins b n front (Tracks t) back (quiet_front b n front f) (quiet_front b n back g))) tt
+    subst P (sym (ap joins_of e ∙ around_joins b n front (Tracks t) back (quiet_front b n front f)
+    (quiet_front b n back g))) tt
 
 -- a slot has one channel on a topic
 abbrev pub ChannelsApart : List Channel → Type 0
@@ -447,13 +505,16 @@ one_of (j ∷ k ∷ more) (inl one) x y a b = absurd (omega arith)
 one_of (j ∷ k ∷ more) (inr one) x y a b = absurd (omega arith)
 
 -- who stays and who joins aren't on one topic of a slot
-old_new : (l : Line) (before : Story) (x y : Channel) → Shaped (l ∷ before) → Among (filter (remains_by l.parts) (members_at before)) x
+old_new : (l : Line) (before : Story) (x y : Channel) → Shaped (l ∷ before)
+    → Among (filter (remains_by l.parts) (members_at before)) x
     → Among (joins_of l.parts) y → x.slot ≡ y.slot → x.topic ≡ y.topic → ⊥
 old_new l before x y h a b sl tp =
     let f = among_filter (remains_by l.parts) (members_at before) x a in
     let room =
-    all_among (λ (ch : Channel). MakesRoom (members_in before) ch l.parts) (joins_of l.parts) y (shape_room (fine_for l.input) (length before) (members_in before) l.parts h.0) b in
-    let gone : has x.number (departed_in l.parts) ≡ true = room (member_in before x) (map_among (member_in before) (members_at before) x f.0) sl tp in
+    all_among (λ (ch : Channel). MakesRoom (members_in before) ch l.parts) (joins_of l.parts) y
+    (shape_room (fine_for l.input) (length before) (members_in before) l.parts h.0) b in
+    let gone : has x.number (departed_in l.parts) ≡ true =
+    room (member_in before x) (map_among (member_in before) (members_at before) x f.0) sl tp in
     let stays : not (has x.number (departed_in l.parts)) ≡ true = f.1 in
     let z : not true ≡ true = sym (ap not gone) ∙ stays in absurd (cc)
 
@@ -465,7 +526,8 @@ apart_more l before h ap_old x y a b sl tp =
     let w = joins_well l before h in
     elim (among_either old js x a) [
       | inl p ↦ elim (among_either old js y b) [
-        | inl q ↦ ap_old x y (among_filter (remains_by l.parts) (members_at before) x p).0 (among_filter (remains_by l.parts) (members_at before) y q).0 sl tp
+        | inl q ↦ ap_old x y (among_filter (remains_by l.parts) (members_at before) x p).0
+            (among_filter (remains_by l.parts) (members_at before) y q).0 sl tp
         | inr q ↦ absurd (old_new l before x y h p q sl tp)
       ]
       | inr p ↦ elim (among_either old js y b) [
@@ -480,12 +542,15 @@ no_members = refl
 
 channels_apart : (st : Story) → Shaped st → ChannelsApart (members_at st)
 channels_apart [] h = subst ChannelsApart (sym no_members) (λ x y a b sl tp. absurd a)
-channels_apart (l ∷ before) h = subst ChannelsApart (sym (members_more l before h)) (apart_more l before h (channels_apart before h.1))
+channels_apart (l ∷ before) h =
+    subst ChannelsApart (sym (members_more l before h)) (apart_more l before h (channels_apart before h.1))
 
 pub members_apart : (st : Story) → Shaped st → AreApart (members_in st)
 members_apart st h g k a b sl tp =
     let x = among_map (member_in st) (members_at st) g a in
     let y = among_map (member_in st) (members_at st) k b in
-    let slots : x.0.slot ≡ y.0.slot = ap (λ (m : Member). m.channel.slot) x.2 ∙ sl ∙ sym (ap (λ (m : Member). m.channel.slot) y.2) in
-    let topics : x.0.topic ≡ y.0.topic = ap (λ (m : Member). m.channel.topic) x.2 ∙ tp ∙ sym (ap (λ (m : Member). m.channel.topic) y.2) in
+    let slots : x.0.slot ≡ y.0.slot = ap (λ (m : Member). m.channel.slot) x.2 ∙ sl
+    ∙ sym (ap (λ (m : Member). m.channel.slot) y.2) in
+    let topics : x.0.topic ≡ y.0.topic = ap (λ (m : Member). m.channel.topic) x.2 ∙ tp
+    ∙ sym (ap (λ (m : Member). m.channel.topic) y.2) in
     sym x.2 ∙ ap (member_in st) (channels_apart st h x.0 y.0 x.1 y.1 slots topics) ∙ y.2

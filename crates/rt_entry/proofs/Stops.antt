@@ -29,7 +29,8 @@ module _ (c : Catalog) (s : Settings) where
         | false ↦ no_stop lane given
       ]
 
-  one_input : (lane : ℕ) (journal : List Input) (i : Input) → stops_in (marks_of c s lane journal i) ≡ count_by is_stop (i ∷ [])
+  one_input : (lane : ℕ) (journal : List Input) (i : Input)
+      → stops_in (marks_of c s lane journal i) ≡ count_by is_stop (i ∷ [])
   unfolding marks_of
   one_input lane journal (Opened n version claims) = no_stop lane _
   one_input lane journal (Frame n bytes) = no_stop lane _
@@ -45,9 +46,11 @@ module _ (c : Catalog) (s : Settings) where
   stops_marked [] lane = ap stops_in (lane_none c s lane)
   stops_marked (i ∷ journal) lane =
       let before = lane_marks c s journal lane in
-      let all : stops_in (lane_marks c s (i ∷ journal) lane) ≡ stops_in before + stops_in (marks_of c s lane journal i) =
+      let all : stops_in (lane_marks c s (i ∷ journal) lane)
+      ≡ stops_in before + stops_in (marks_of c s lane journal i) =
       ap stops_in (lane_more c s journal i lane) ∙ both before (marks_of c s lane journal i) in
       let old = stops_marked journal lane in
       let one = one_input lane journal i in
-      let split : count_by is_stop (i ∷ journal) ≡ count_by is_stop (i ∷ []) + count_by is_stop journal = sum_by-append _ (i ∷ []) journal in
+      let split : count_by is_stop (i ∷ journal) ≡ count_by is_stop (i ∷ []) + count_by is_stop journal =
+      sum_by-append _ (i ∷ []) journal in
       omega arith

@@ -1,5 +1,6 @@
 -- What is present: one track of a channel, each under a number of its own, on its channel's topic.
-use Rattle.std.proofs.Common.{◌≡◌, ℕ, ◌<◌, Bool, true, false, ◌||◌, not, List, [], ◌∷◌, ◌++◌, length, Option, Some, sym, ap, subst, ◌∙◌, append-nil, arith, inl, inr}
+use Rattle.std.proofs.Common.{◌≡◌, ℕ, ◌<◌, Bool, true, false, ◌||◌, not, List, [], ◌∷◌, ◌++◌, length, Option, Some, sym}
+use Rattle.std.proofs.Common.{ap, subst, ◌∙◌, append-nil, arith, inl, inr}
 use Rattle.std.specs.Prelude.{◌==◌}
 use Rattle.std.specs.List.{filter, list_any}
 use Rattle.rt_value.proofs.Among.{Among, among_left, among_either, among_filter, among_map}
@@ -7,7 +8,8 @@ use Rattle.rt_value.proofs.Plain.{AllOf, all_append, all_filter, all_weaker, all
 use Rattle.rt_entry.specs.declared.story.Channel.{Channel}
 use Rattle.rt_entry.specs.declared.story.Member.{Member}
 use Rattle.rt_entry.specs.declared.story.Track.{Track}
-use Rattle.rt_entry.specs.Story.{Line, Story, joined, departed, has, members_at, member_in, all_tracks, is_last, standing_tracks, present_at}
+use Rattle.rt_entry.specs.Story.{Line, Story, joined, departed, has, members_at, member_in, all_tracks, is_last}
+use Rattle.rt_entry.specs.Story.{standing_tracks, present_at}
 use Rattle.rt_entry.specs.After.{joins_of, tracks_in}
 use Rattle.rt_entry.proofs.Shapes.{IsOfMember, fine_for, eqb_same}
 use Rattle.rt_entry.proofs.Grows.{standing_append, joined_grows}
@@ -25,7 +27,8 @@ apart_one key z x y (inl a) (inl b) e = sym a ∙ b
 apart_one key z x y (inl a) (inr b) e = absurd b
 apart_one key z x y (inr a) b e = absurd a
 
-apart_append : {A : Type 0} (key : A → ℕ) (xs ys : List A) → Apart key xs → Apart key ys → ((x y : A) → Among xs x → Among ys y → key x ≡ key y → ⊥)
+apart_append : {A : Type 0} (key : A → ℕ) (xs ys : List A) → Apart key xs → Apart key ys
+    → ((x y : A) → Among xs x → Among ys y → key x ≡ key y → ⊥)
     → Apart key (xs ++ ys)
 apart_append key xs ys p q cross x y a b e =
     elim (among_either xs ys x a) [
@@ -71,37 +74,44 @@ info_more l before h t i =
     let lt = i.reference in
     record {
       channel = i.channel;
-      here = subst P (sym (joined_grows l before w.one)) (among_left (joined before) (joins_of l.parts) i.channel i.here);
+      here = subst P (sym (joined_grows l before w.one))
+          (among_left (joined before) (joins_of l.parts) i.channel i.here);
       number = i.number;
       topic = i.topic;
       reference = omega arith;
     }
 
 not_same : (n m : ℕ) → not ((n == m) || false) ≡ true → n ≡ m → ⊥
-not_same n m e k = let z : false ≡ true = sym (ap (λ (b : Bool). not (b || false)) (ap (λ j. n == j) (sym k) ∙ eqb_same n)) ∙ e in cc
+not_same n m e k = let z : false ≡ true =
+    sym (ap (λ (b : Bool). not (b || false)) (ap (λ j. n == j) (sym k) ∙ eqb_same n)) ∙ e in cc
 
-info_new : (l : Line) (before : Story) → Shaped (l ∷ before) → (t : Track) (ch : Channel) → Among (members_at before) ch → ch.number ≡ t.channel
+info_new : (l : Line) (before : Story) → Shaped (l ∷ before) → (t : Track) (ch : Channel) → Among (members_at before) ch
+    → ch.number ≡ t.channel
     → ch.topic ≡ t.topic → t.reference ≡ length before → Info (l ∷ before) t
 info_new l before h t ch a n tp ref =
     let P : List Channel → Type 0 = λ chs. Among chs ch in
     let w = joins_well l before h in
     record {
       channel = ch;
-      here = subst P (sym (joined_grows l before w.one)) (among_left (joined before) (joins_of l.parts) ch (members_joined before ch a));
+      here = subst P (sym (joined_grows l before w.one))
+          (among_left (joined before) (joins_of l.parts) ch (members_joined before ch a));
       number = n;
       topic = tp;
       reference = omega arith;
     }
 
 cross_channel : (l : Line) (x y t : Track) (old : List Track) → tracks_in l.parts ≡ (t.channel, Some t) ∷ []
-    → Among (filter (λ (u : Track). is_last u.channel (tracks_in l.parts)) old) x → Among (t ∷ []) y → x.channel ≡ y.channel → ⊥
+    → Among (filter (λ (u : Track). is_last u.channel (tracks_in l.parts)) old) x → Among (t ∷ []) y
+    → x.channel ≡ y.channel → ⊥
 cross_channel l x y t old e a (inr b) k = b
 cross_channel l x y t old e a (inl b) k =
     let f = among_filter (λ (u : Track). is_last u.channel (tracks_in l.parts)) old x a in
-    let g : is_last x.channel ((t.channel, Some t) ∷ []) ≡ true = ap (λ (xs : List (ℕ × Option Track)). is_last x.channel xs) (sym e) ∙ f.1 in
+    let g : is_last x.channel ((t.channel, Some t) ∷ []) ≡ true =
+    ap (λ (xs : List (ℕ × Option Track)). is_last x.channel xs) (sym e) ∙ f.1 in
     not_same t.channel x.channel g (ap (λ (u : Track). u.channel) b ∙ sym k)
 
-cross_reference : (before : Story) (x y t : Track) (old : List Track) (p : Track → Bool) → AllOf (Info before) old → t.reference ≡ length before
+cross_reference : (before : Story) (x y t : Track) (old : List Track) (p : Track → Bool) → AllOf (Info before) old
+    → t.reference ≡ length before
     → Among (filter p old) x → Among (t ∷ []) y → x.reference ≡ y.reference → ⊥
 cross_reference before x y t old p infos ref a (inr b) k = b
 cross_reference before x y t old p infos ref a (inl b) k =
@@ -110,7 +120,8 @@ cross_reference before x y t old p infos ref a (inl b) k =
     let same : t.reference ≡ y.reference = ap (λ (u : Track). u.reference) b in absurd (omega arith)
 
 -- one line later
-tracked_more : (l : Line) (before : Story) → Shaped (l ∷ before) → IsTracked before (standing_tracks (all_tracks before))
+tracked_more : (l : Line) (before : Story) → Shaped (l ∷ before)
+    → IsTracked before (standing_tracks (all_tracks before))
     → IsTracked (l ∷ before) (standing_tracks (all_tracks (l ∷ before)))
 tracked_more l before h g =
     let new = tracks_in l.parts in
@@ -120,14 +131,16 @@ tracked_more l before h g =
     let is : standing_tracks (all_tracks (l ∷ before)) ≡ kept ++ standing_tracks new =
     ap standing_tracks (all_tracks_more l before) ∙ standing_append (all_tracks before) new (all_tagged before) in
     let P : List Track → Type 0 = IsTracked (l ∷ before) in
-    let infos = all_weaker (Info before) (Info (l ∷ before)) kept (info_more l before h) (all_filter (Info before) last old g.info) in
+    let infos = all_weaker (Info before) (Info (l ∷ before)) kept (info_more l before h)
+    (all_filter (Info before) last old g.info) in
     let chans = apart_filter (λ (t : Track). t.channel) last old g.channels in
     let refs = apart_filter (λ (t : Track). t.reference) last old g.references in
     subst P (sym is) (elim (shape_tracks (fine_for l.input) (length before) (members_in before) l.parts h.0) [
       | inl e ↦
           let Q : List Track → Type 0 = λ ts. IsTracked (l ∷ before) (kept ++ ts) in
           let R : List Track → Type 0 = IsTracked (l ∷ before) in
-          subst Q (sym e) (subst R (sym (append-nil kept)) (record { info = infos; channels = chans; references = refs }))
+          subst Q (sym e) (subst R (sym (append-nil kept))
+          (record { info = infos; channels = chans; references = refs }))
       | inr r ↦
           let t = r.0 in
           let own : IsOfMember (length before) (members_in before) t = r.5 in
@@ -139,9 +152,11 @@ tracked_more l before h g =
           (ap (λ (m : Member). m.channel.topic) made.2 ∙ own.topic) own.reference in
           subst Q (sym r.1) (record {
             info = all_append (Info (l ∷ before)) kept (t ∷ []) infos (fresh, tt);
-            channels = apart_append (λ (u : Track). u.channel) kept (t ∷ []) chans (apart_one (λ (u : Track). u.channel) t)
+            channels = apart_append (λ (u : Track). u.channel) kept (t ∷ []) chans
+                (apart_one (λ (u : Track). u.channel) t)
                 (λ x y a b e. cross_channel l x y t old r.1 a b e);
-            references = apart_append (λ (u : Track). u.reference) kept (t ∷ []) refs (apart_one (λ (u : Track). u.reference) t)
+            references = apart_append (λ (u : Track). u.reference) kept (t ∷ []) refs
+                (apart_one (λ (u : Track). u.reference) t)
                 (λ x y a b e. cross_reference before x y t old last g.info own.reference a b e);
           })
     ])
@@ -162,7 +177,8 @@ pub record IsPresent (st : Story) : Type 0 where
   pub channels : Apart (λ (t : Track). t.channel) (present_at st)
   pub references : Apart (λ (t : Track). t.reference) (present_at st)
   pub small : AllOf (λ (t : Track). t.reference < length st) (present_at st)
-  pub topics : (t : Track) (h : Member) → Among (present_at st) t → Among (members_in st) h → h.channel.number ≡ t.channel → h.channel.topic ≡ t.topic
+  pub topics : (t : Track) (h : Member) → Among (present_at st) t → Among (members_in st) h
+      → h.channel.number ≡ t.channel → h.channel.topic ≡ t.topic
 
 pub is_present : (st : Story) → Shaped st → IsPresent st
 unfolding present_at
@@ -178,8 +194,10 @@ is_present st h =
       topics = λ t m a b e.
           let i = all_among (Info st) all t g.info (among_filter held all t a).0 in
           let made = among_map (member_in st) (members_at st) m b in
-          let number : made.0.number ≡ i.channel.number = ap (λ (x : Member). x.channel.number) made.2 ∙ e ∙ sym i.number in
+          let number : made.0.number ≡ i.channel.number = ap (λ (x : Member). x.channel.number) made.2 ∙ e
+          ∙ sym i.number in
           let same : made.0 ≡ i.channel =
-          one_number (joined st) made.0 i.channel (joined_rising st h) (members_joined st made.0 made.1) i.here number in
+          one_number (joined st) made.0 i.channel (joined_rising st h)
+          (members_joined st made.0 made.1) i.here number in
           sym (ap (λ (x : Member). x.channel.topic) made.2) ∙ ap (λ (x : Channel). x.topic) same ∙ i.topic;
     }

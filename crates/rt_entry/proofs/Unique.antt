@@ -1,5 +1,6 @@
 -- No two members have the same number.
-use Rattle.std.proofs.Common.{◌≡◌, ◌⊎◌, ℕ, ◌<◌, Bool, true, false, not, cond, List, [], ◌∷◌, ◌++◌, map, length, sym, ap, subst, ◌∙◌, arith, inl, inr}
+use Rattle.std.proofs.Common.{◌≡◌, ◌⊎◌, ℕ, ◌<◌, Bool, true, false, not, cond, List, [], ◌∷◌, ◌++◌, map, length, sym, ap}
+use Rattle.std.proofs.Common.{subst, ◌∙◌, arith, inl, inr}
 use Rattle.std.specs.Prelude.{⊤}
 use Rattle.std.specs.List.{filter}
 use Rattle.rt_value.proofs.Among.{Among}
@@ -53,25 +54,31 @@ pub joined_rising : (st : Story) → Shaped st → Rising (joined st)
 joined_rising [] h = let P : List Channel → Type 0 = Rising in subst P (sym none_joined) tt
 joined_rising (l ∷ before) h =
     let w = joins_well l before h in
-    subst Rising (sym (joined_grows l before w.one)) (rising_append (length before) (joined before) (joins_of l.parts) (joined_rising before h.1)
+    subst Rising (sym (joined_grows l before w.one))
+    (rising_append (length before) (joined before) (joins_of l.parts) (joined_rising before h.1)
     (joined_below before h.1) w.one w.numbers)
 
 pub members_rising : (st : Story) → Shaped st → RisingMembers (members_in st)
 unfolding members_at
-members_rising st h = rising_map st (members_at st) (rising_filter (λ ch. not (has ch.number (departed st))) (joined st) (joined_rising st h))
+members_rising st h = rising_map st (members_at st)
+    (rising_filter (λ ch. not (has ch.number (departed st))) (joined st) (joined_rising st h))
 
-same_of : (hs : List Member) (g h : Member) → RisingMembers hs → Among hs g → Among hs h → g.channel.number ≡ h.channel.number → g ≡ h
+same_of : (hs : List Member) (g h : Member) → RisingMembers hs → Among hs g → Among hs h
+    → g.channel.number ≡ h.channel.number → g ≡ h
 same_of [] g h r a b e = absurd a
 same_of (x ∷ xs) g h r (inl a) (inl b) e = sym a ∙ b
 same_of (x ∷ xs) g h r (inl a) (inr b) e =
-    let lt : x.channel.number < h.channel.number = all_among (λ (m : Member). x.channel.number < m.channel.number) xs h r.0 b in
+    let lt : x.channel.number < h.channel.number =
+    all_among (λ (m : Member). x.channel.number < m.channel.number) xs h r.0 b in
     let k : x.channel.number ≡ g.channel.number = ap (λ (m : Member). m.channel.number) a in absurd (omega arith)
 same_of (x ∷ xs) g h r (inr a) (inl b) e =
-    let lt : x.channel.number < g.channel.number = all_among (λ (m : Member). x.channel.number < m.channel.number) xs g r.0 a in
+    let lt : x.channel.number < g.channel.number =
+    all_among (λ (m : Member). x.channel.number < m.channel.number) xs g r.0 a in
     let k : x.channel.number ≡ h.channel.number = ap (λ (m : Member). m.channel.number) b in absurd (omega arith)
 same_of (x ∷ xs) g h r (inr a) (inr b) e = same_of xs g h r.1 a b e
 
 -- members of one number are one
-pub same_member : (st : Story) (g h : Member) → Shaped st → Among (members_in st) g → Among (members_in st) h → g.channel.number ≡ h.channel.number
+pub same_member : (st : Story) (g h : Member) → Shaped st → Among (members_in st) g → Among (members_in st) h
+    → g.channel.number ≡ h.channel.number
     → g ≡ h
 same_member st g h sh a b e = same_of (members_in st) g h (members_rising st sh) a b e

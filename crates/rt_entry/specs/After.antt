@@ -10,7 +10,9 @@ use Rattle.rt_entry.specs.declared.story.Channel.{Channel}
 use Rattle.rt_entry.specs.declared.story.Member.{Member}
 use Rattle.rt_entry.specs.declared.story.Track.{Track}
 use Rattle.rt_entry.specs.declared.story.Part.{Part}
-use Rattle.rt_entry.specs.Story.{Now, now_of, moment_after, is_stop, heard_in, opened_after, joined_by, departed_in, has, renewed_by, first_or, tracked_by, is_last, standing_tracks, edits_at, tables_of, tables_left}
+use Rattle.rt_entry.specs.Story.{Now, now_of, moment_after, is_stop, heard_in, opened_after, joined_by, departed_in}
+use Rattle.rt_entry.specs.Story.{has, renewed_by, first_or, tracked_by, is_last, standing_tracks, edits_at, tables_of}
+use Rattle.rt_entry.specs.Story.{tables_left}
 use Rattle.rt_entry.specs.Doings.{doings, story}
 
 -- what is open on a slot after parts, where `o` was open before them
@@ -67,8 +69,10 @@ module _ (c : Catalog) (s : Settings) where
 
   -- for every journal and input: what stands before the next input
   abbrev pub StoryGrows : Type 0
-  StoryGrows = (journal : List Input) (i : Input) → now_of (story c s (i ∷ journal)) ≡ after (now_of (story c s journal)) i (done_by journal i)
+  StoryGrows = (journal : List Input) (i : Input)
+      → now_of (story c s (i ∷ journal)) ≡ after (now_of (story c s journal)) i (done_by journal i)
 
   -- the tables that the next input finds are those that this one leaves
   abbrev pub TablesGrow : Type 0
-  TablesGrow = (journal : List Input) (i : Input) → tables_of c (edits_at (story c s (i ∷ journal))) ≡ tables_left c (story c s journal) i
+  TablesGrow = (journal : List Input) (i : Input) → tables_of c (edits_at (story c s (i ∷ journal)))
+      ≡ tables_left c (story c s journal) i

@@ -37,5 +37,7 @@ module _ (c : Catalog) (s : Settings) where
   -- the lane's part of it is the fan-out over the lane's channels alone
   abbrev pub LaneFans : Type 0
   LaneFans =
-      (lane : ℕ) (subs : List Subscription) (tables : List (List Row)) (views : List ChannelView) (changes : List Change)
-      → filter (is_in_lane s.workers lane) (fan subs tables views changes) ≡ fan subs tables (filter (is_of_lane s.workers lane) views) changes
+      (lane : ℕ) (subs : List Subscription) (tables : List (List Row)) (views : List ChannelView)
+      (changes : List Change)
+      → filter (is_in_lane s.workers lane) (fan subs tables views changes)
+      ≡ fan subs tables (filter (is_of_lane s.workers lane) views) changes

@@ -27,11 +27,13 @@ module _ (c : Catalog) (s : Settings) where
 
   -- the ids with which a channel is told of a change of the poll
   abbrev pub told_ids : List Input → List Change → Change → ChannelView → List ℕ
-  told_ids before changes ch to = map (λ x. x.id) (filter (gets c s (judged_on before changes) ch to.channel) (subscribed before))
+  told_ids before changes ch to =
+      map (λ x. x.id) (filter (gets c s (judged_on before changes) ch to.channel) (subscribed before))
 
   -- the subscriptions that stand are in the order of their ids, from 1 on, each an id of its own that was given
   abbrev pub IdsRise : Type 0
-  IdsRise = (journal : List Input) → RiseWithin 1 (map (λ x. x.id) (subscribed journal)) (suc (now_of (story c s journal)).ids)
+  IdsRise = (journal : List Input)
+      → RiseWithin 1 (map (λ x. x.id) (subscribed journal)) (suc (now_of (story c s journal)).ids)
 
   -- a channel is told of a change with ids that rise
   abbrev pub ToldIdsRise : Type 0

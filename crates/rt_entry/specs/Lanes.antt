@@ -49,4 +49,5 @@ module _ (c : Catalog) (s : Settings) where
 
   -- a lane has as many stops as the journal
   abbrev pub StopsAreMarked : Type 0
-  StopsAreMarked = (journal : List Input) (lane : ℕ) → count_by is_stop_mark (lane_marks c s journal lane) ≡ count_by is_stop journal
+  StopsAreMarked = (journal : List Input) (lane : ℕ) → count_by is_stop_mark (lane_marks c s journal lane)
+      ≡ count_by is_stop journal

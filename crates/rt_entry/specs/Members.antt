@@ -16,7 +16,8 @@ module _ (c : Catalog) (s : Settings) where
   abbrev pub NumbersAreApart : Type 0
   NumbersAreApart =
       (journal : List Input) (g h : Member)
-      → Contains (members_of_journal journal) g → Contains (members_of_journal journal) h → g.channel.number ≡ h.channel.number → g ≡ h
+      → Contains (members_of_journal journal) g → Contains (members_of_journal journal) h
+      → g.channel.number ≡ h.channel.number → g ≡ h
 
   -- a slot has one member on a topic
   abbrev pub TopicsAreApart : Type 0

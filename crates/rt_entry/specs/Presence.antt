@@ -1,5 +1,6 @@
 -- The presence that a client holds, message by message (the Realtime protocol, "Presence").
-use Rattle.std.specs.Prelude.{◌≡◌, ℕ, zero, suc, ◌==◌, ◌<◌, ◌^◌, nat_le, true, false, not, ◌&&◌, List, [], ◌∷◌, ◌++◌, map, length, take, codes, Option, Some, None, count_by, IsPermutation, Contains}
+use Rattle.std.specs.Prelude.{◌≡◌, ℕ, zero, suc, ◌==◌, ◌<◌, ◌^◌, nat_le, true, false, not, ◌&&◌, List, [], ◌∷◌, ◌++◌}
+use Rattle.std.specs.Prelude.{map, length, take, codes, Option, Some, None, count_by, IsPermutation, Contains}
 use Rattle.std.specs.List.{AllByRecursion, filter, filter_map}
 use Rattle.std.specs.Str.{bytes_eq}
 use Rattle.rt_value.specs.Choice.{◌>>=◌, first_case}
@@ -52,29 +53,37 @@ module _ (c : Catalog) (s : Settings) where
   abbrev pub told_since : Channel → List Input → List Message
   told_since ch [] = []
   told_since ch (i ∷ before) =
-      elim (nat_le ch.number (length before)) [ true ↦ told_since ch before ++ filter_map (said_to ch) (answers c s before i) | false ↦ [] ]
+      elim (nat_le ch.number (length before)) [
+        | true ↦ told_since ch before
+            ++ filter_map (said_to ch) (answers c s before i)
+        | false ↦ []
+      ]
 
   -- what is present on a topic
   abbrev pub present_behind : List Input → List ℕ → List Track
   present_behind journal topic = filter (λ t. bytes_eq t.topic topic) (present_at (story c s journal))
 
-  -- Each member with presence holds what is present on its topic. A state is in key order and the tracks in journal order, so it is equal up to order.
+  -- Each member with presence holds what is present on its topic. A state is in key order and the tracks in journal
+  -- order, so it is equal up to order.
   abbrev pub ClientsHold : List Input → Type 0
   ClientsHold journal =
       (ch : Channel) → Contains (members_at (story c s journal)) ch → ch.presence ≡ true
       → IsPermutation (client_view [] (told_since ch journal)) (map shown_meta (present_behind journal ch.topic))
 
-  -- A client takes metas away by `phx_ref`, the number of the track's input in decimal, and that tells numbers apart below 2 ^ 64: so the journal is
-  -- shorter.
+  -- A client takes metas away by `phx_ref`, the number of the track's input in decimal, and that tells numbers apart
+  -- below 2 ^ 64: so the journal is shorter.
   abbrev pub ClientsAgree : List Input → Type 0
   ClientsAgree journal = length journal < 2 ^ 64 → ClientsHold journal
 
-  -- So it is at each place of the journal that any steps make: there it is no longer than the limit on inputs, a number of 32 bits.
+  -- So it is at each place of the journal that any steps make: there it is no longer than the limit on inputs, a number
+  -- of 32 bits.
   abbrev pub TakenClientsAgree : Type 0
   TakenClientsAgree =
-      s.inputs < 2 ^ 32 → (steps : List Step) (later before : List Input) → (run c s steps start).journal ≡ later ++ before → ClientsHold before
+      s.inputs < 2 ^ 32 → (steps : List Step) (later before : List Input)
+      → (run c s steps start).journal ≡ later ++ before → ClientsHold before
 
--- The same of what a slot was given of an opening, by the opening's number on the slot: the messages behind so many terminators, up to the next one.
+-- The same of what a slot was given of an opening, by the opening's number on the slot: the messages behind so many
+-- terminators, up to the next one.
 abbrev pub items_of : ℕ → List Item → List Item
 items_of number [] = []
 items_of zero (Said bytes ∷ more) = Said bytes ∷ items_of zero more
@@ -107,7 +116,11 @@ module _ (c : Catalog) (s : Settings) where
   abbrev pub said_since : Channel → List Input → List Message
   said_since ch [] = []
   said_since ch (i ∷ before) =
-      elim (nat_le ch.number (length before)) [ true ↦ said_since ch before ++ filter_map said_by (told ch.slot (answers c s before i)) | false ↦ [] ]
+      elim (nat_le ch.number (length before)) [
+        | true ↦ said_since ch before
+            ++ filter_map said_by (told ch.slot (answers c s before i))
+        | false ↦ []
+      ]
 
   -- what a slot was given after steps; and of an opening, up to a place of it
   abbrev pub given_after : List Step → ℕ → List Item
@@ -116,29 +129,33 @@ module _ (c : Catalog) (s : Settings) where
   abbrev pub given_of : List Step → ℕ → (number place : ℕ) → List Item
   given_of steps slot number place = items_of number (take place (given_after steps slot))
 
-  -- The slot has a member with presence in the opening that it has then, and these items are exactly what is due of that opening by the inputs so far.
+  -- The slot has a member with presence in the opening that it has then, and these items are exactly what is due of
+  -- that opening by the inputs so far.
   pub record IsUpTo (given : List Item) (before : List Input) (ch : Channel) (o : Opening) : Type 0 where
     pub member : Contains (members_at (story c s before)) ch
     pub enabled : ch.presence ≡ true
     pub opening : opening_at (story c s before) ch.slot ≡ Some o
     pub items : given ≡ last_items (due c s before ch.slot)
 
-  -- Then they end with all that the slot was told since the join, each message in the opening's spelling; and by these a client holds what is present on
-  -- the channel's topic, whatever it held before.
+  -- Then they end with all that the slot was told since the join, each message in the opening's spelling; and by these
+  -- a client holds what is present on the channel's topic, whatever it held before.
   pub record HoldsPresent (given : List Item) (before : List Input) (ch : Channel) (o : Opening) : Type 0 where
     pub front : List Item
     pub whole : given ≡ front ++ as_items o.version (said_since ch before)
     pub holds : (held : List Held)
-        → IsPermutation (client_view held (messages_to ch (said_since ch before))) (map shown_meta (present_behind c s before ch.topic))
+        → IsPermutation (client_view held (messages_to ch (said_since ch before)))
+        (map shown_meta (present_behind c s before ch.topic))
 
-  -- After any steps and for a place of the journal that they make: where a slot was given, of its opening of some number and up to some place of what it
-  -- was given, exactly what is due of the opening that it has there. (So that opening isn't cut before. What was given of it later is for later places.)
+  -- After any steps and for a place of the journal that they make: where a slot was given, of its opening of some
+  -- number and up to some place of what it was given, exactly what is due of the opening that it has there. (So that
+  -- opening isn't cut before. What was given of it later is for later places.)
   abbrev pub OpeningsAgree : Type 0
   OpeningsAgree =
       s.inputs < 2 ^ 32
       → (steps : List Step) (later before : List Input) (ch : Channel) (o : Opening) (number place : ℕ)
       → (run c s steps start).journal ≡ later ++ before
-      → IsUpTo (given_of steps ch.slot number place) before ch o → HoldsPresent (given_of steps ch.slot number place) before ch o
+      → IsUpTo (given_of steps ch.slot number place) before ch o
+      → HoldsPresent (given_of steps ch.slot number place) before ch o
 
   -- So it is of the last opening and of all that was given of it.
   abbrev pub GivenClientsAgree : Type 0
@@ -146,10 +163,12 @@ module _ (c : Catalog) (s : Settings) where
       s.inputs < 2 ^ 32
       → (steps : List Step) (later before : List Input) (ch : Channel) (o : Opening)
       → (run c s steps start).journal ≡ later ++ before
-      → IsUpTo (last_items (given_after steps ch.slot)) before ch o → HoldsPresent (last_items (given_after steps ch.slot)) before ch o
+      → IsUpTo (last_items (given_after steps ch.slot)) before ch o
+      → HoldsPresent (last_items (given_after steps ch.slot)) before ch o
 
--- The same by the bytes that a client reads, with a reader of its own: what the server says may be longer and nest deeper than a frame that the server
--- reads. It reads each text of the grammar whose lists and objects nest in at most so many levels.
+-- The same by the bytes that a client reads, with a reader of its own: what the server says may be longer and nest
+-- deeper than a frame that the server reads. It reads each text of the grammar whose lists and objects nest in at most
+-- so many levels.
 pub record IsReader (levels : ℕ) (read : List ℕ → Option Json) : Type 0 where
   pub reads : (bytes : List ℕ) (tree : Json) → IsWithin levels tree bytes → read bytes ≡ Some tree
 
@@ -161,12 +180,14 @@ abbrev pub messages_on : (List ℕ → Option Json) → Version → Channel → 
 messages_on read version ch items = messages_to ch (filter_map (message_in read version) items)
 
 module _ (c : Catalog) (s : Settings) where
-  -- Any reader that goes as deep as the server's messages (a message is a level around its payload) finds in what the slot was given what is present,
-  -- where the catalogue's names are UTF-8 and the changes are those of lines: else a text might be told that can't be read.
+  -- Any reader that goes as deep as the server's messages (a message is a level around its payload) finds in what the
+  -- slot was given what is present, where the catalogue's names are UTF-8 and the changes are those of lines: else a
+  -- text might be told that can't be read.
   abbrev pub OpeningReadersAgree : Type 0
   OpeningReadersAgree =
       HasReadableNames c → s.inputs < 2 ^ 32
-      → (steps : List Step) (later before : List Input) (ch : Channel) (o : Opening) (number place : ℕ) (read : List ℕ → Option Json)
+      → (steps : List Step) (later before : List Input) (ch : Channel) (o : Opening) (number place : ℕ) (read : List ℕ
+      → Option Json)
       → (run c s steps start).journal ≡ later ++ before → AllByRecursion (IsOfLines c) before
       → IsUpTo c s (given_of c s steps ch.slot number place) before ch o → IsReader (suc payload_levels) read
       → IsPermutation (client_view [] (messages_on read o.version ch (given_of c s steps ch.slot number place)))

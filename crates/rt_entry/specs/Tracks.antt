@@ -23,7 +23,8 @@ module _ (c : Catalog) (s : Settings) where
   abbrev pub ReferencesAreApart : Type 0
   ReferencesAreApart =
       (journal : List Input) (t u : Track)
-      → Contains (tracks_of_journal journal) t → Contains (tracks_of_journal journal) u → t.reference ≡ u.reference → t ≡ u
+      → Contains (tracks_of_journal journal) t → Contains (tracks_of_journal journal) u → t.reference ≡ u.reference
+      → t ≡ u
 
   -- the member that tracks, on whose topic the track is, and the track's number in the journal
   pub record IsMembers (journal : List Input) (t : Track) : Type 0 where

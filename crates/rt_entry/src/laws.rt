@@ -1,5 +1,5 @@
-//! Laws of the journal, each on a function that does nothing: what the next input finds by what this one found and did, who is a member, what is
-//! present, and what stands in the lanes.
+//! Laws of the journal, each on a function that does nothing: what the next input finds by what
+//! this one found and did, who is a member, what is present, and what stands in the lanes.
 
 mod lanes;
 mod stories;

@@ -1,4 +1,5 @@
-//! The inputs of the journal, what each does and gives, and the machine of steps that carries it to the slots; and laws of the journal.
+//! The inputs of the journal, what each does and gives, and the machine of steps that carries it to
+//! the slots; and laws of the journal.
 #![tactic(auto)]
 
 mod answer;

@@ -1,5 +1,6 @@
 -- What clients hold over whole journals.
-use Rattle.std.proofs.Common.{◌≡◌, ℕ, ◌<◌, ◌≤◌, Bool, true, false, List, [], ◌∷◌, ◌++◌, map, length, refl, sym, ap, subst, ◌∙◌, arith, inl, inr}
+use Rattle.std.proofs.Common.{◌≡◌, ℕ, ◌<◌, ◌≤◌, Bool, true, false, List, [], ◌∷◌, ◌++◌, map, length, refl, sym, ap}
+use Rattle.std.proofs.Common.{subst, ◌∙◌, arith, inl, inr}
 use Rattle.std.specs.Prelude.{◌^◌, nat_le}
 use Rattle.std.specs.List.{filter}
 use Rattle.std.specs.Str.{bytes_eq}
@@ -39,7 +40,8 @@ module _ (c : Catalog) (s : Settings) where
       → has h.channel.number (departed_in (done_by c s journal i)) ≡ false → IsNoStop i
   unfolding doings now_of
   no_stop journal Stop h here stays =
-      absurd (let z : true ≡ false = sym (stop_has (now_of (story c s journal)) (open_slots c s journal) h here) ∙ stays in cc)
+      absurd (let z : true ≡ false = sym (stop_has (now_of (story c s journal)) (open_slots c s journal) h here)
+      ∙ stays in cc)
   no_stop journal (Opened slot version claims) h here stays = tt
   no_stop journal (Frame slot bytes) h here stays = tt
   no_stop journal (Gone slot) h here stays = tt
@@ -49,12 +51,16 @@ module _ (c : Catalog) (s : Settings) where
 
   -- what a channel was told
 
-  told_case : (ch : Channel) (i : Input) (before : List Input) (b : Bool) → nat_le ch.number (length before) ≡ b → ch.number ≤ length before
+  told_case : (ch : Channel) (i : Input) (before : List Input) (b : Bool) → nat_le ch.number (length before) ≡ b
+      → ch.number ≤ length before
       → told_since c s ch (i ∷ before) ≡ told_since c s ch before ++ heard c s before i ch
   told_case ch i before b e le =
       let yes : nat_le ch.number (length before) ≡ true = elim
       (leb_tells ch.number (length before)) [ inl t ↦ t.0 | inr t ↦ let lt = t.1 in absurd (omega arith) ] in
-      ap (λ (x : Bool). elim x as (λ k. List Message) [ true ↦ told_since c s ch before ++ heard c s before i ch | false ↦ [] ]) yes
+      ap (λ (x : Bool). elim x as (λ k. List Message) [
+        | true ↦ told_since c s ch before ++ heard c s before i ch
+        | false ↦ []
+      ]) yes
 
   told_more : (ch : Channel) (i : Input) (before : List Input) → ch.number ≤ length before
       → told_since c s ch (i ∷ before) ≡ told_since c s ch before ++ heard c s before i ch
@@ -65,7 +71,10 @@ module _ (c : Catalog) (s : Settings) where
   none_told ch (i ∷ before) le =
       let no : nat_le ch.number (length before) ≡ false = elim
       (leb_tells ch.number (length before)) [ inl t ↦ let k = t.1 in absurd (omega arith) | inr t ↦ t.0 ] in
-      ap (λ (x : Bool). elim x as (λ k. List Message) [ true ↦ told_since c s ch before ++ heard c s before i ch | false ↦ [] ]) no
+      ap (λ (x : Bool). elim x as (λ k. List Message) [
+        | true ↦ told_since c s ch before ++ heard c s before i ch
+        | false ↦ []
+      ]) no
 
   -- whatever it held before its join
   abbrev pub Agrees : List Input → Channel → List Held → Type 0
@@ -76,45 +85,58 @@ module _ (c : Catalog) (s : Settings) where
   -- one input later, where it holds what the input's tracks make
   agrees_next : (journal : List Input) (i : Input) (ch : Channel) (held : List Held) → ch.number ≤ length journal
       → Moves (client_view (client_view held (told_since c s ch journal)) (heard c s journal i ch))
-      (map shown_meta (filter (λ (t : Track). bytes_eq t.topic ch.topic) (tracks_after (present_at (story c s journal)) (done_by c s journal i))))
+      (map shown_meta (filter (λ (t : Track). bytes_eq t.topic ch.topic)
+      (tracks_after (present_at (story c s journal)) (done_by c s journal i))))
       → Agrees (i ∷ journal) ch held
   agrees_next journal i ch held le m =
       let on : Track → Bool = λ t. bytes_eq t.topic ch.topic in
       let P : List Held → Type 0 = λ x. Moves x (map shown_meta (filter on (present_at (story c s (i ∷ journal))))) in
-      let Q : List Track → Type 0 = λ ts. Moves (client_view (client_view held (told_since c s ch journal)) (heard c s journal i ch))
+      let Q : List Track → Type 0 = λ ts.
+      Moves (client_view (client_view held (told_since c s ch journal)) (heard c s journal i ch))
       (map shown_meta (filter on ts)) in
-      subst P (sym (ap (client_view held) (told_more ch i journal le) ∙ view_append held (told_since c s ch journal) (heard c s journal i ch)))
+      subst P (sym (ap (client_view held) (told_more ch i journal le)
+      ∙ view_append held (told_since c s ch journal) (heard c s journal i ch)))
       (subst Q (sym (tracks_next c s journal i)) m)
 
-  started : (journal : List Input) (i : Input) (ch : Channel) → Among (joins_of (done_by c s journal i)) ch → ch.presence ≡ true → (held : List Held)
+  started : (journal : List Input) (i : Input) (ch : Channel) → Among (joins_of (done_by c s journal i)) ch
+      → ch.presence ≡ true → (held : List Held)
       → Moves (client_view held (heard c s journal i ch)) (map shown_meta
-      (filter (λ (t : Track). bytes_eq t.topic ch.topic) (tracks_after (present_at (story c s journal)) (done_by c s journal i))))
+      (filter (λ (t : Track). bytes_eq t.topic ch.topic)
+      (tracks_after (present_at (story c s journal)) (done_by c s journal i))))
   unfolding answers_by now_of
   started journal i ch joins enabled held =
       let st = story c s journal in
       let sh = story_shaped c s journal in
-      starts (now_of st) (held_below st sh) (members_apart st sh) (open_slots c s journal) c s (tables_left c st i) i ch joins enabled held
+      starts (now_of st) (held_below st sh) (members_apart st sh) (open_slots c s journal) c s
+      (tables_left c st i) i ch joins enabled held
 
-  agrees_by : (journal : List Input) (i : Input) (ch : Channel) (held : List Held) → length journal < 2 ^ 64 → ch.presence ≡ true
-      → (Among (members_at (story c s journal)) ch → Agrees journal ch held) → Either c s journal i ch → Agrees (i ∷ journal) ch held
+  agrees_by : (journal : List Input) (i : Input) (ch : Channel) (held : List Held) → length journal < 2 ^ 64
+      → ch.presence ≡ true
+      → (Among (members_at (story c s journal)) ch → Agrees journal ch held) → Either c s journal i ch
+      → Agrees (i ∷ journal) ch held
   agrees_by journal i ch held short enabled before (inl a) =
       let st = story c s journal in
       let h = member_in st ch in
       let here = map_among (member_in st) (members_at st) ch a.0 in
       let lt = member_number c s journal ch a.0 in
-      agrees_next journal i ch held (omega arith) (held_after c s journal i h short (no_stop journal i h here a.1) here enabled
+      agrees_next journal i ch held (omega arith)
+      (held_after c s journal i h short (no_stop journal i h here a.1) here enabled
       (client_view held (told_since c s ch journal)) a.1 (before a.0))
   agrees_by journal i ch held short enabled before (inr b) =
       let e = joins_numbered c s journal i ch b in
-      agrees_next journal i ch held (omega arith) (started journal i ch b enabled (client_view held (told_since c s ch journal)))
+      agrees_next journal i ch held (omega arith)
+      (started journal i ch b enabled (client_view held (told_since c s ch journal)))
 
-  pub agrees : (journal : List Input) (ch : Channel) (held : List Held) → length journal < 2 ^ 64 → Among (members_at (story c s journal)) ch
+  pub agrees : (journal : List Input) (ch : Channel) (held : List Held) → length journal < 2 ^ 64
+      → Among (members_at (story c s journal)) ch
       → ch.presence ≡ true
       → Agrees journal ch held
-  agrees [] ch held short here enabled = absurd (let P : List Channel → Type 0 = λ chs. Among chs ch in subst P (none_first c s) here)
+  agrees [] ch held short here enabled =
+      absurd (let P : List Channel → Type 0 = λ chs. Among chs ch in subst P (none_first c s) here)
   agrees (i ∷ journal) ch held short here enabled =
       let less : length journal < 2 ^ 64 = omega arith in
-      agrees_by journal i ch held less enabled (λ a. agrees journal ch held less a enabled) (either c s journal i ch here)
+      agrees_by journal i ch held less enabled (λ a. agrees journal ch held less a enabled)
+      (either c s journal i ch here)
 
   pub clients_agree : (journal : List Input) → ClientsAgree c s journal
   clients_agree journal short ch known enabled =

@@ -1,5 +1,6 @@
 -- The push that put a cut there, and who tells changes.
-use Rattle.std.proofs.Common.{◌≡◌, ◌⊎◌, ℕ, ◌≤◌, List, [], ◌∷◌, ◌++◌, refl, sym, ap, subst, ◌∙◌, append_assoc, append-nil, arith, inl, inr}
+use Rattle.std.proofs.Common.{◌≡◌, ◌⊎◌, ℕ, ◌≤◌, List, [], ◌∷◌, ◌++◌, refl, sym, ap, subst, ◌∙◌, append_assoc}
+use Rattle.std.proofs.Common.{append-nil, arith, inl, inr}
 use Rattle.std.specs.Prelude.{Contains, codes}
 use Rattle.rt_value.proofs.Among.{Among, from_contains, among_either}
 use Rattle.rt_catalog.specs.declared.catalog.Catalog.{Catalog}
@@ -42,8 +43,10 @@ module _ (c : Catalog) (s : Settings) where
     abbrev AllPut : List Step → Type 0
     AllPut steps = (k : Cut) → Among (slot_after c s steps slot).cuts k → IsPut c s steps slot k
 
-    one_more : (front : List Step) (x : Step) → slot_after c s (front ++ x ∷ []) slot ≡ (step_of c s (run c s front start) x).1.slots slot
-    one_more front x = ap (λ (w : World). w.slots slot) (run_append front (x ∷ []) start ∙ run_one x (run c s front start))
+    one_more : (front : List Step) (x : Step)
+        → slot_after c s (front ++ x ∷ []) slot ≡ (step_of c s (run c s front start) x).1.slots slot
+    one_more front x = ap (λ (w : World). w.slots slot) (run_append front (x ∷ []) start
+        ∙ run_one x (run c s front start))
 
     later : (front : List Step) (x : Step) (k : Cut) → IsPut c s front slot k → IsPut c s (front ++ x ∷ []) slot k
     later front x k p = record {
@@ -54,12 +57,14 @@ module _ (c : Catalog) (s : Settings) where
       put = p.put;
     }
 
-    here : (front : List Step) (x : Step) (o : IsOwnCut c s (run c s front start) x slot) → IsPut c s (front ++ x ∷ []) slot o.cut
+    here : (front : List Step) (x : Step) (o : IsOwnCut c s (run c s front start) x slot)
+        → IsPut c s (front ++ x ∷ []) slot o.cut
     here front x o =
         let least = o.held in
         let most = outboxes_within c s front slot in
         let P : Step → Type 0 = λ y. IsPut c s (front ++ y ∷ []) slot o.cut in
-        let put : ((step_of c s (run c s front start) (Push slot)).1.slots slot).cuts ≡ ((run c s front start).slots slot).cuts ++ o.cut ∷ [] =
+        let put : ((step_of c s (run c s front start) (Push slot)).1.slots slot).cuts
+        ≡ ((run c s front start).slots slot).cuts ++ o.cut ∷ [] =
         ap (λ (y : Step). ((step_of c s (run c s front start) y).1.slots slot).cuts) (sym o.push) ∙ o.put in
         subst P (sym o.push) (record {
           before = front;
@@ -73,7 +78,8 @@ module _ (c : Catalog) (s : Settings) where
     step_put front x f k there =
         let w = run c s front start in
         let old : List Cut = (w.slots slot).cuts in
-        let now : Among ((step_of c s w x).1.slots slot).cuts k = subst (λ cuts. Among cuts k) (ap (λ x. x.cuts) (one_more front x)) there in
+        let now : Among ((step_of c s w x).1.slots slot).cuts k =
+        subst (λ cuts. Among cuts k) (ap (λ x. x.cuts) (one_more front x)) there in
         elim (cuts_are_own c s w x slot) [
           | inl same ↦ later front x k (f k (subst (λ cuts. Among cuts k) same now))
           | inr o ↦ elim (among_either old (o.cut ∷ []) k (subst (λ cuts. Among cuts k) o.put now)) [
@@ -93,4 +99,5 @@ module _ (c : Catalog) (s : Settings) where
         absurd (subst (λ (w : World). Among (w.slots slot).cuts k) run_start there)
 
   pub cuts_put : CutsArePut c s
-  cuts_put steps slot k there = put_from slot [] steps (none_put slot) k (from_contains (slot_after c s steps slot).cuts k there)
+  cuts_put steps slot k there = put_from slot [] steps (none_put slot) k
+      (from_contains (slot_after c s steps slot).cuts k there)

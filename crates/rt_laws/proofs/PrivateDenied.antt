@@ -12,7 +12,8 @@ use Rattle.rt_entry.specs.declared.input.Settings.{Settings}
 use Rattle.rt_entry.specs.declared.story.Part.{Part}
 use Rattle.rt_entry.specs.Doings.{doings, posting_parts, may_post, may_send}
 use Rattle.rt_entry.specs.Answers.{answer_of, answers_by}
-use Rattle.rt_laws.specs.Private.{DenialsAreReasons, ReasonsAreDenials, NothingIsDenied, PostsRunOut, EachIsPosted, found_by, tables_by}
+use Rattle.rt_laws.specs.Private.{DenialsAreReasons, ReasonsAreDenials, NothingIsDenied, PostsRunOut, EachIsPosted}
+use Rattle.rt_laws.specs.Private.{found_by, tables_by}
 use Rattle.rt_catalog.proofs.Found.{bind_some}
 
 pub posts_run_out : (c : Catalog) (s : Settings) → PostsRunOut c s
@@ -42,4 +43,5 @@ module _ (c : Catalog) where
 
 pub each_is_posted : (c : Catalog) (s : Settings) → EachIsPosted c s
 each_is_posted c s e now tables claims p =
-    ap (λ (o : Option Messages). is_none o || is_at (may_send c s now tables claims p.topic) (role_named c claims.role)) e
+    ap (λ (o : Option Messages). is_none o || is_at (may_send c s now tables claims p.topic) (role_named c claims.role))
+    e

@@ -1,5 +1,6 @@
 -- What a channel that joins is told.
-use Rattle.std.proofs.Common.{◌≡◌, ℕ, Bool, true, false, ◌&&◌, not, List, [], ◌∷◌, ◌++◌, map, Option, Some, None, refl, sym, ap, subst, ◌∙◌, append-nil, inl, inr}
+use Rattle.std.proofs.Common.{◌≡◌, ℕ, Bool, true, false, ◌&&◌, not, List, [], ◌∷◌, ◌++◌, map, Option, Some, None, refl}
+use Rattle.std.proofs.Common.{sym, ap, subst, ◌∙◌, append-nil, inl, inr}
 use Rattle.std.specs.Prelude.{◌==◌}
 use Rattle.std.specs.List.{filter, cons_option}
 use Rattle.std.specs.Str.{bytes_eq}
@@ -54,7 +55,8 @@ module _ (now : Now) where
   closing_departs None = refl
   closing_departs (Some g) =
       let n = g.channel.number in
-      ap departed_in (append-nil (close now [] g)) ∙ ap (λ (ds : List ℕ). n ∷ ds) (none_leave now (n ∷ []) (track_of now n))
+      ap departed_in (append-nil (close now [] g))
+      ∙ ap (λ (ds : List ℕ). n ∷ ds) (none_leave now (n ∷ []) (track_of now n))
 
   closing_tracks : (o : Option Member) → tracks_in (closing now o) ≡ []
   closing_tracks None = refl
@@ -74,7 +76,8 @@ module _ (now : Now) where
       (ch : Channel) → Among (joins_of ps) ch → ch.presence ≡ true → (held : List Held)
       → Moves (client_view held (hears ch ps)) (map shown_meta (filter (on ch) (tracks_after now.tracks ps)))
 
-  hears_state : (ch : Channel) (m : Message) (b : Bool) → b ≡ true → m.topic ≡ ch.topic → hears ch (tell_if b ch.slot m) ≡ m ∷ []
+  hears_state : (ch : Channel) (m : Message) (b : Bool) → b ≡ true → m.topic ≡ ch.topic
+      → hears ch (tell_if b ch.slot m) ≡ m ∷ []
   hears_state ch m false e t = absurd (cc)
   hears_state ch m true e t =
       let place : ((ch.slot == ch.slot) && bytes_eq m.topic ch.topic) ≡ true =
@@ -86,7 +89,8 @@ module _ (now : Now) where
     gone = numbers_in o
 
     abbrev quiet : List Part
-    quiet = Joins ch ∷ (tell ch.slot (reply_ok ch.join_ref m (joined_response ch)) ++ tell_if (has_bindings ch) ch.slot (subscribed_message ch))
+    quiet = Joins ch ∷ (tell ch.slot (reply_ok ch.join_ref m (joined_response ch))
+        ++ tell_if (has_bindings ch) ch.slot (subscribed_message ch))
 
     abbrev said : Message
     said = presence_state ch (present_on now gone ch.topic)
@@ -102,23 +106,28 @@ module _ (now : Now) where
 
     all_departs : departed_in all ≡ gone
     all_departs =
-        filter_map-append departed_by (closing now o) (quiet ++ state) ∙ ap (λ (ds : List ℕ). ds ++ departed_in (quiet ++ state)) (closing_departs o)
+        filter_map-append departed_by (closing now o) (quiet ++ state)
+        ∙ ap (λ (ds : List ℕ). ds ++ departed_in (quiet ++ state)) (closing_departs o)
         ∙ ap (λ (ds : List ℕ). gone ++ ds) (filter_map-append departed_by quiet state
-        ∙ ap (λ (ds : List ℕ). ds ++ departed_in state) (mute_departs quiet mute_quiet) ∙ tell_departs ch.presence ch.slot said)
+        ∙ ap (λ (ds : List ℕ). ds ++ departed_in state) (mute_departs quiet mute_quiet)
+        ∙ tell_departs ch.presence ch.slot said)
         ∙ append-nil gone
 
     all_tracks : tracks_in all ≡ []
     all_tracks =
         flat_map-append tracked_by (closing now o) (quiet ++ state)
         ∙ ap (λ (xs : List (ℕ × Option Track)). xs ++ tracks_in (quiet ++ state)) (closing_tracks o)
-        ∙ flat_map-append tracked_by quiet state ∙ ap (λ (xs : List (ℕ × Option Track)). xs ++ tracks_in state) (mute_tracks quiet mute_quiet)
+        ∙ flat_map-append tracked_by quiet state
+        ∙ ap (λ (xs : List (ℕ × Option Track)). xs ++ tracks_in state) (mute_tracks quiet mute_quiet)
         ∙ tell_tracks ch.presence ch.slot said
 
-    start_view : (held : List Held) → client_view held (hears ch all) ≡ metas_in (metas_tree (map shown_meta (present_on now gone ch.topic)))
+    start_view : (held : List Held)
+        → client_view held (hears ch all) ≡ metas_in (metas_tree (map shown_meta (present_on now gone ch.topic)))
     start_view held =
         let first = client_view held (hears ch (closing now o)) in
         let next = client_view first (hears ch quiet) in
-        ap (client_view held) (hears_append ch (closing now o) (quiet ++ state)) ∙ view_append held (hears ch (closing now o)) (hears ch (quiet ++ state))
+        ap (client_view held) (hears_append ch (closing now o) (quiet ++ state))
+        ∙ view_append held (hears ch (closing now o)) (hears ch (quiet ++ state))
         ∙ ap (client_view first) (hears_append ch quiet state) ∙ view_append first (hears ch quiet) (hears ch state)
         ∙ ap (client_view next) (hears_state ch said ch.presence enabled refl)
 
@@ -131,16 +140,20 @@ module _ (now : Now) where
         ∙ sym (filter_and (on ch) left now.tracks)
         ∙ filter_same (λ t. left t && on ch t) (λ t. on ch t && left t) (λ t. and_swap (left t) (on ch t)) now.tracks
 
-    start : (held : List Held) → Moves (client_view held (hears ch all)) (map shown_meta (filter (on ch) (tracks_after now.tracks all)))
+    start : (held : List Held) → Moves (client_view held (hears ch all))
+        (map shown_meta (filter (on ch) (tracks_after now.tracks all)))
     start held =
         let P : List Held → Type 0 = λ x. Moves x (map shown_meta (filter (on ch) (tracks_after now.tracks all))) in
-        let Q : List Track → Type 0 = λ ts. Moves (metas_in (metas_tree (map shown_meta (present_on now gone ch.topic)))) (map shown_meta ts) in
-        subst P (sym (start_view held)) (subst Q (sym tracks_are) (read_again (map shown_meta (present_on now gone ch.topic))))
+        let Q : List Track → Type 0 = λ ts.
+        Moves (metas_in (metas_tree (map shown_meta (present_on now gone ch.topic)))) (map shown_meta ts) in
+        subst P (sym (start_view held))
+        (subst Q (sym tracks_are) (read_again (map shown_meta (present_on now gone ch.topic))))
 
   calm : (ps : List Part) → joins_of ps ≡ [] → Starts ps
   calm ps e ch i enabled held = absurd (none_joins ps ch e i)
 
-  accepted : (o : Option Member) (m : Message) (ch : Channel) → joins_of (closing now o ++ accept_parts now (numbers_in o) m ch) ≡ ch ∷ []
+  accepted : (o : Option Member) (m : Message) (ch : Channel)
+      → joins_of (closing now o ++ accept_parts now (numbers_in o) m ch) ≡ ch ∷ []
       → Starts (closing now o ++ accept_parts now (numbers_in o) m ch)
   accepted o m ch joins x i =
       let parts = closing now o ++ accept_parts now (numbers_in o) m ch in

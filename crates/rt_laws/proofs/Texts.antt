@@ -1,5 +1,6 @@
 -- Texts that are UTF-8: the server's own words, decimals, moments, and what stands behind a prefix of ASCII.
-use Rattle.std.proofs.Common.{◌≡◌, ◌⊎◌, ℕ, zero, suc, ◌+◌, ◌%◌, ◌/◌, ◌<◌, ◌≤◌, Bool, true, false, ◌&&◌, List, [], ◌∷◌, ◌++◌, take, drop, length, get_or, inl, inr, refl, sym, ap, ◌∙◌, arith, append-nil}
+use Rattle.std.proofs.Common.{◌≡◌, ◌⊎◌, ℕ, zero, suc, ◌+◌, ◌%◌, ◌/◌, ◌<◌, ◌≤◌, Bool, true, false, ◌&&◌, List, [], ◌∷◌}
+use Rattle.std.proofs.Common.{◌++◌, take, drop, length, get_or, inl, inr, refl, sym, ap, ◌∙◌, arith, append-nil}
 use Rattle.std.specs.Prelude.{◌^◌, ◌==◌, IsUtf8, nat_lt, nat_eq}
 use Rattle.std.specs.Fmt.{decimal}
 use Rattle.std.specs.List.{list_all}
@@ -42,9 +43,14 @@ digit n h = grind (arith, nat_tests)
 
 first_digit : (n : ℕ) → n < 10 → Spelled n ((48 + n) ∷ [])
 first_digit zero h = inl (refl, refl)
-first_digit (suc n) h = inr (digit (suc n) h, (let e : (48 + suc n == 48) ≡ false = grind (arith, nat_tests) in e), refl)
+first_digit (suc n) h = inr (
+  digit (suc n) h,
+  (let e : (48 + suc n == 48) ≡ false = grind (arith, nat_tests) in e),
+  refl,
+)
 
-all_more : (xs ys : List ℕ) → list_all is_digit xs ≡ true → list_all is_digit ys ≡ true → list_all is_digit (xs ++ ys) ≡ true
+all_more : (xs ys : List ℕ) → list_all is_digit xs ≡ true → list_all is_digit ys ≡ true
+    → list_all is_digit (xs ++ ys) ≡ true
 all_more [] ys a b = b
 all_more (x ∷ xs) ys a b =
     let t = and_parts (is_digit x) (list_all is_digit xs) a in
@@ -98,7 +104,8 @@ behind_byte b bs low u = same_char u.0 bs b low u.1.0 u.1.1
 same_byte : (a b : ℕ) → nat_eq a b ≡ true → a ≡ b
 same_byte a b e = grind (arith, nat_tests)
 
-pub behind : (needle bs : List ℕ) → list_all is_ascii_byte needle ≡ true → pointwise nat_eq needle (take (length needle) bs) ≡ true → IsUtf8 bs
+pub behind : (needle bs : List ℕ) → list_all is_ascii_byte needle ≡ true
+    → pointwise nat_eq needle (take (length needle) bs) ≡ true → IsUtf8 bs
     → IsUtf8 (drop (length needle) bs)
 behind [] bs a e u = u
 behind (p ∷ ps) [] a e u = absurd (cc)

@@ -33,17 +33,22 @@ module _ (c : Catalog) (s : Settings) (before : List Input) (changes : List Chan
 
   -- what one change of the poll gives
   abbrev pub change_answers : Change → Answers
-  change_answers ch = filter_map answer_of (change_parts_to_all c s subs tables (map view_of (members_of_journal c s before)) ch)
+  change_answers ch = filter_map answer_of
+      (change_parts_to_all c s subs tables (map view_of (members_of_journal c s before)) ch)
 
   -- the change gives a message to a member, and the id is one of its ids
   pub record IsTold (ch : Change) (id : ℕ) : Type 0 where
     pub member : Member
     pub known : Contains (members_of_journal c s before) member
     pub among : Contains (ids ch (view_of member)) id
-    pub said : Contains (change_answers ch)
-        (member.channel.slot, Says (change_message (view_of member) (ids ch (view_of member)) (shape_of c member.standing.role s.max_record ch)))
+    pub said : Contains (change_answers ch) (
+      member.channel.slot,
+      Says (change_message (view_of member) (ids ch (view_of member))
+          (shape_of c member.standing.role s.max_record ch)),
+    )
 
-  -- the change at the place of the line, which is told to the line's subscription exactly where its verdict is no denial
+  -- the change at the place of the line, which is told to the line's subscription exactly where its verdict is no
+  -- denial
   pub record IsDecided (j : Judged) : Type 0 where
     pub change : Change
     pub at : Contains (enumerate_from 0 changes) (j.place, change)
@@ -52,8 +57,10 @@ module _ (c : Catalog) (s : Settings) (before : List Input) (changes : List Chan
 module _ (c : Catalog) (s : Settings) where
   -- every verdict of a poll
   abbrev pub AuditDecides : Type 0
-  AuditDecides = (before : List Input) (changes : List Change) (j : Judged) → Contains (judged_input c s before (Poll changes)) j → IsDecided c s before changes j
+  AuditDecides = (before : List Input) (changes : List Change) (j : Judged)
+      → Contains (judged_input c s before (Poll changes)) j → IsDecided c s before changes j
 
   -- a poll gives what its changes give, one after another
   abbrev pub PollsAreChanges : Type 0
-  PollsAreChanges = (before : List Input) (changes : List Change) → answers c s before (Poll changes) ≡ flat_map (change_answers c s before changes) changes
+  PollsAreChanges = (before : List Input) (changes : List Change)
+      → answers c s before (Poll changes) ≡ flat_map (change_answers c s before changes) changes

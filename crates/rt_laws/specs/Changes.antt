@@ -27,15 +27,17 @@ module _ (c : Catalog) (s : Settings) where
     pub due : IsDueBy c s before changes slot m
     pub verdict : Verdict
     pub sent : is_sent verdict ≡ true
-    pub same : All (λ (sub : Subscription). verdict_of c (rows_of_table (tables_left c (story c s before) (Poll changes))) sub due.change ≡ verdict) due.subs
+    pub same : All (λ (sub : Subscription).
+        verdict_of c (rows_of_table (tables_left c (story c s before) (Poll changes))) sub due.change
+        ≡ verdict) due.subs
 
   abbrev pub VerdictsAreOne : Type 0
   VerdictsAreOne =
       (before : List Input) (changes : List Change) (slot : ℕ) (m : Message)
       → Contains (answers c s before (Poll changes)) (slot, Says m) → HasOneVerdict before changes slot m
 
-  -- A message that an input of the journal gave the slot, as it was spelled. Of a poll it was due by it and one of its changes; of any other input it hasn't
-  -- the event of changes.
+  -- A message that an input of the journal gave the slot, as it was spelled. Of a poll it was due by it and one of its
+  -- changes; of any other input it hasn't the event of changes.
   pub record IsOfInput (journal : List Input) (slot : ℕ) (bytes : List ℕ) : Type 0 where
     pub later : List Input
     pub input : Input
@@ -52,4 +54,5 @@ module _ (c : Catalog) (s : Settings) where
   abbrev pub GivenIsAllowed : Type 0
   GivenIsAllowed =
       (steps : List Step) (slot : ℕ) (bytes : List ℕ)
-      → Contains ((run c s steps start).slots slot).given (item.Message bytes) → IsOfInput (run c s steps start).journal slot bytes
+      → Contains ((run c s steps start).slots slot).given (item.Message bytes)
+      → IsOfInput (run c s steps start).journal slot bytes

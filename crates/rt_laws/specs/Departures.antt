@@ -30,11 +30,13 @@ module _ (c : Catalog) (s : Settings) where
   abbrev pub heard : List Input → Input → Channel → List Message
   heard journal i ch = filter_map (said_to ch) (answers c s journal i)
 
-  -- each member of another slot with presence enabled hears one difference for every channel of the slot that tracked on its topic, in join order
+  -- each member of another slot with presence enabled hears one difference for every channel of the slot that tracked
+  -- on its topic, in join order
   abbrev pub DeparturesAreTold : Type 0
   DeparturesAreTold =
       (journal : List Input) (slot : ℕ) (o : Opening) (h : Member)
       → opening_in (found_by journal) slot ≡ Some o
       → Contains (found_by journal).members h → h.channel.presence ≡ true → h.channel.slot ≢ slot
       → heard journal (Gone slot) h.channel
-      ≡ flat_map (λ g. leave_for h.channel (track_of (found_by journal) g.channel.number)) (channels_of (found_by journal) slot)
+      ≡ flat_map (λ g. leave_for h.channel (track_of (found_by journal) g.channel.number))
+      (channels_of (found_by journal) slot)

@@ -28,12 +28,14 @@ IsNoStop Stop = ⊥
 IsNoStop _ = ⊤
 
 module _ (c : Catalog) (s : Settings) where
-  -- A member with presence enabled that was told what is present on its topic, and that the input doesn't let depart, holds with what the input says to
-  -- it what is present then, up to order.
+  -- A member with presence enabled that was told what is present on its topic, and that the input doesn't let depart,
+  -- holds with what the input says to it what is present then, up to order.
   abbrev pub ClientsFollow : Type 0
   ClientsFollow =
       (journal : List Input) (i : Input) (h : Member)
       → length journal < 2 ^ 64 → IsNoStop i
-      → Contains (members_of_journal c s journal) h → h.channel.presence ≡ true → has h.channel.number (departed_in (done_by c s journal i)) ≡ false
-      → IsPermutation (client_view [] (presence_state h.channel (present_behind c s journal h.channel.topic) ∷ heard c s journal i h.channel))
+      → Contains (members_of_journal c s journal) h → h.channel.presence ≡ true
+      → has h.channel.number (departed_in (done_by c s journal i)) ≡ false
+      → IsPermutation (client_view [] (presence_state h.channel (present_behind c s journal h.channel.topic)
+      ∷ heard c s journal i h.channel))
       (map shown_meta (present_behind c s (i ∷ journal) h.channel.topic))

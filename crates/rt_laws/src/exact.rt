@@ -7,7 +7,8 @@ pub fn only_polls_tell_changes()
     ensures { (c : CatalogData) (s : SettingsData) → OnlyPollsTellChanges c s }
 {}
 
-/// After any list of steps, each cut of a slot was put there by a push on that slot at which its outbox held exactly `capacity` messages.
+/// After any list of steps, each cut of a slot was put there by a push on that slot at which its
+/// outbox held exactly `capacity` messages.
 pub fn cuts_are_put()
     ensures { (c : CatalogData) (s : SettingsData) → CutsArePut c s }
 {}

@@ -1,4 +1,5 @@
-//! Laws of what the journal gives and of the machine of steps. Each is the contract of a function with an empty body.
+//! Laws of what the journal gives and of the machine of steps. Each is the contract of a function
+//! with an empty body.
 #![tactic(auto)]
 
 mod access;

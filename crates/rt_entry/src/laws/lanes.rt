@@ -5,8 +5,9 @@ ghost use Rattle.rt_entry.specs.declared.input.Settings.{Settings as SettingsDat
 ghost use Rattle.rt_entry.specs.Fan.{EntriesGive, LaneFans};
 ghost use Rattle.rt_entry.specs.Lanes.{EntriesAnswer, EntriesGrow, EntriesStay, MarksGrow, MarksStay, StopsAreMarked};
 
-/// The central law: what the entry of a mark gives is what the mark gives, and what the entries of an input give a lane's slots is what the input
-/// answers them. Whatever inputs come later, those entries stand at their place.
+/// The central law: what the entry of a mark gives is what the mark gives, and what the entries of
+/// an input give a lane's slots is what the input answers them. Whatever inputs come later, those
+/// entries stand at their place.
 pub fn entries_give()
     ensures give { (c : CatalogData) (s : SettingsData) → EntriesGive c s }
     ensures answer { (c : CatalogData) (s : SettingsData) → EntriesAnswer c s }
@@ -23,7 +24,8 @@ pub fn marks_stay()
     ensures { (c : CatalogData) (s : SettingsData) → MarksStay c s }
 {}
 
-/// An input more puts its marks behind a lane's, and their entries behind the lane's: nothing else changes.
+/// An input more puts its marks behind a lane's, and their entries behind the lane's: nothing else
+/// changes.
 pub fn lanes_grow()
     ensures marks { (c : CatalogData) (s : SettingsData) → MarksGrow c s }
     ensures entries { (c : CatalogData) (s : SettingsData) → EntriesGrow c s }
