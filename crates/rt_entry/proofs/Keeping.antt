@@ -48,10 +48,10 @@ use Rattle.rt_entry.specs.Doings.{posting_parts, post_parts, may_post, permitted
 use Rattle.rt_entry.specs.After.{joins_of}
 use Rattle.rt_entry.proofs.Shapes.{AreApart, Below, IsMade, Plain, join_made, plain_end, plain_end_if, plain_open}
 use Rattle.rt_entry.proofs.Shapes.{plain_ticks, plain_stop}
-use Rattle.rt_entry.proofs.Sound.{plain_joins}
 use Rattle.rt_entry.proofs.Opens.{Spares, Still, still_on, still_joins, IsOpen, Keeps, keeps_still, keeps_end}
 use Rattle.rt_entry.proofs.Opens.{keeps_end_if, keeps_ticks, keeps_open, stop_has, still_diffs, still_leave}
 use Rattle.rt_entry.proofs.Opens.{still_close, still_fail, still_closing}
+use Rattle.rt_entry.proofs.PlainParts.{plain_joins}
 
 still_tell_if : (b : Bool) (slot : ℕ) (m : Message) → AllOf Still (tell_if b slot m)
 still_tell_if true slot m = (tt, tt)

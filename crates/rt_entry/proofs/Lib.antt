@@ -6,6 +6,7 @@ pub mod Keeping
 pub mod Marks
 pub mod Once
 pub mod Opens
+pub mod PlainParts
 pub mod Present
 pub mod Shapes
 pub mod Slots

@@ -22,7 +22,7 @@ use Rattle.rt_entry.specs.Doings.{diffs, leave_diffs, depart, end_of, end_if_ope
 use Rattle.rt_entry.specs.Doings.{has_run_out, tick_parts, departs_of, stop_parts}
 use Rattle.rt_entry.specs.After.{joins_of, opens_after, after}
 use Rattle.rt_entry.proofs.Shapes.{eqb_same}
-use Rattle.rt_entry.proofs.Sound.{has_append}
+use Rattle.rt_entry.proofs.PlainParts.{has_append}
 
 -- who has departed, in another order
 

@@ -13,8 +13,9 @@ use Rattle.rt_entry.specs.Story.{standing_tracks, present_at}
 use Rattle.rt_entry.specs.After.{joins_of, tracks_in}
 use Rattle.rt_entry.proofs.Shapes.{IsOfMember, fine_for, eqb_same}
 use Rattle.rt_entry.proofs.Grows.{standing_append, joined_grows}
-use Rattle.rt_entry.proofs.Sound.{Shaped, members_in, joins_well, all_tagged, all_tracks_more, no_tracks, shape_tracks}
+use Rattle.rt_entry.proofs.Sound.{Shaped, members_in, joins_well, all_tagged, all_tracks_more, no_tracks}
 use Rattle.rt_entry.proofs.Unique.{Rising, joined_rising}
+use Rattle.rt_entry.proofs.PlainParts.{shape_tracks}
 
 abbrev pub Apart : {A : Type 0} → (A → ℕ) → List A → Type 0
 Apart {A} key xs = (x y : A) → Among xs x → Among xs y → key x ≡ key y → x ≡ y

@@ -93,7 +93,8 @@ module _ (now : Now) (slot : ℕ) where
   tick_own moment gone n o e r =
       let ending = filter (has_run_out moment) (channels_of now n) in
       let expiry = in_turn (fail now (codes "token expired")) gone ending in
-      elim (is_idle moment o) as (λ t. Lands gone (elim t [ true ↦ end_of now gone n end_name.Idle | false ↦ expiry ])) [
+      elim (is_idle moment o) as
+      (λ t. Lands gone (elim t [ true ↦ end_of now gone n end_name.Idle | false ↦ expiry ])) [
         | true ↦ (false, end_own now slot gone n end_name.Idle e r, nobody gone n e)
         | false ↦ (
           true,

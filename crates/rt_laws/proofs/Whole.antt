@@ -384,7 +384,8 @@ module _ (now : Now) (slot : ℕ) where
         (λ h here e. r h here (eqb-true h.channel.slot slot e) refl) (all_themselves now.members) in
         all_flat_of (Mild slot b) (Among changes) to_all changes
         (λ ch k. elim (is_truncate ch.verb) as
-        (λ t. AllOf (Mild slot b) (elim t [ true ↦ [] | false ↦ flat_map (change_parts_to c s subs tables ch) views ])) [
+        (λ t. AllOf (Mild slot b)
+        (elim t [ true ↦ [] | false ↦ flat_map (change_parts_to c s subs tables ch) views ])) [
           | true ↦ tt
           | false ↦ all_flat_of (Mild slot b) (λ (to : ChannelView). MaySay b to.slot)
               (change_parts_to c s subs tables ch) views

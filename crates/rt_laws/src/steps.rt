@@ -1,6 +1,7 @@
 ghost use Rattle.rt_catalog.specs.declared.catalog.Catalog.{Catalog as CatalogData};
 ghost use Rattle.rt_entry.specs.declared.input.Settings.{Settings as SettingsData};
-ghost use Rattle.rt_entry.specs.Headline.{CutsAreOwn, OthersAreUntouched, OutboxesAreWithin, PushKeepsTheRest};
+ghost use Rattle.rt_entry.specs.Headline.{CutsAreOwn, OthersAreUntouched, OutboxesAreWithin};
+ghost use Rattle.rt_entry.specs.Headline.{PushKeepsTheRest};
 
 /// A cut is made only by a push on the slot itself, at which its own outbox held as many messages
 /// as it can; and after any list of steps no outbox holds more.

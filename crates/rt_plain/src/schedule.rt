@@ -1,4 +1,5 @@
-ghost use Rattle.rt_plain.specs.Plain.{DueIsFree, PlainEnds, PlainGivesAll, WorkersAreFree, WorkersEndAlike};
+ghost use Rattle.rt_plain.specs.Plain.{DueIsFree, PlainEnds, PlainGivesAll};
+ghost use Rattle.rt_plain.specs.Plain.{WorkersAreFree, WorkersEndAlike};
 
 /// A run that ends, of a script of inputs in the plain schedule, with workers, capacity, lane and
 /// inlet of at least 1, takes the inputs in their order, cuts no slot, and gives each slot all that

@@ -3,7 +3,8 @@
 ghost use Rattle.rt_catalog.specs.declared.catalog.Catalog.{Catalog as CatalogData};
 ghost use Rattle.rt_entry.specs.declared.input.Settings.{Settings as SettingsData};
 ghost use Rattle.rt_entry.specs.Fan.{EntriesGive, LaneFans};
-ghost use Rattle.rt_entry.specs.Lanes.{EntriesAnswer, EntriesGrow, EntriesStay, MarksGrow, MarksStay, StopsAreMarked};
+ghost use Rattle.rt_entry.specs.Lanes.{EntriesAnswer, EntriesGrow, EntriesStay};
+ghost use Rattle.rt_entry.specs.Lanes.{MarksGrow, MarksStay, StopsAreMarked};
 
 /// The central law: what the entry of a mark gives is what the mark gives, and what the entries of
 /// an input give a lane's slots is what the input answers them. Whatever inputs come later, those
