@@ -3,7 +3,7 @@ use Rattle.std.proofs.Common.{not, ◌≡◌, ◌⊎◌, ℕ, ◌+◌, ◌-◌, 
 use Rattle.std.proofs.Common.{Option, Some, None, refl, ap, subst, arith, inl, inr}
 use Rattle.std.specs.Prelude.{◌==◌, nat_lt, nat_le, ◌≢◌}
 use Rattle.std.proofs.lemmas.Bool.Decides.{nat_tests, eqb_tells}
-use Rattle.std.proofs.lemmas.Bool.{and_parts}
+use Rattle.std.proofs.lemmas.Bool.{and_parts, leb-true}
 use Rattle.rt_catalog.specs.declared.catalog.Catalog.{Catalog}
 use Rattle.rt_entry.specs.declared.input.Input.{Input}
 use Rattle.rt_entry.specs.declared.input.Settings.{Settings}
@@ -57,9 +57,6 @@ by_case : (w : World) (slot : ℕ) (b : Bool) (x y : Outcome × World) → Keeps
     → Keeps w slot (elim b [ true ↦ x | false ↦ y ])
 by_case w slot true x y f g = f
 by_case w slot false x y f g = g
-
-pub le_from : (n m : ℕ) → nat_le n m ≡ true → n ≤ m
-le_from n m h = grind (arith, nat_tests)
 
 module _ (c : Catalog) (s : Settings) where
   taken_kept : (w rest : World) (i : Input) (slot : ℕ) → IsUntouched w rest slot
@@ -188,7 +185,7 @@ module _ (c : Catalog) (s : Settings) where
   push_case w n p true e =
       let k : Cut = record { opening = p.opening; place = p.place } in
       inr (
-        le_from s.capacity (messages_in (outbox (w.slots n)))
+        leb-true s.capacity (messages_in (outbox (w.slots n)))
             (and_parts (is_message p.item) (nat_le s.capacity (messages_in (outbox (w.slots n)))) e).1,
         (k, ap (λ (x : Slot). x.cuts) (at_itself w.slots n (with_cut (w.slots n) p))),
       )

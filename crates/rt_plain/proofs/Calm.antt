@@ -5,7 +5,7 @@ use Rattle.std.specs.Prelude.{⊤, ◌==◌, nat_le}
 use Rattle.std.specs.List.{flat_map}
 use Rattle.std.proofs.lemmas.Bool.Decides.{eqb_tells}
 use Rattle.std.proofs.lemmas.List.{drop_all}
-use Rattle.std.proofs.lemmas.Bool.{and_parts}
+use Rattle.std.proofs.lemmas.Bool.{and_parts, leb-true}
 use Rattle.rt_value.proofs.Plain.{AllOf, all_append, all_map}
 use Rattle.rt_catalog.specs.declared.catalog.Catalog.{Catalog}
 use Rattle.rt_entry.specs.declared.input.Settings.{Settings}
@@ -21,7 +21,6 @@ use Rattle.rt_entry.specs.Machine.{pop, step_of, run}
 use Rattle.rt_script.specs.Running.{every_lane, round, does_nothing, Drains, still, again}
 use Rattle.rt_laws.proofs.Lists.{drop_within}
 use Rattle.rt_laws.proofs.Good.{IsGood, with_all, step_good}
-use Rattle.rt_laws.proofs.Untouched.{le_from}
 use Rattle.rt_laws.proofs.Exactly.{run_append}
 
 -- what a round does with a slot
@@ -103,7 +102,7 @@ module _ (c : Catalog) (s : Settings) (room : 0 < s.capacity) where
       let t : nat_le s.capacity (messages_in (outbox x)) ≡ true =
       (and_parts (is_message i) (nat_le s.capacity (messages_in (outbox x))) e).1 in
       let u : nat_le s.capacity 0 ≡ true = ap (λ is. nat_le s.capacity (messages_in is)) (sym (calm_outbox x a)) ∙ t in
-      let le = le_from s.capacity 0 u in
+      let le = leb-true s.capacity 0 u in
       absurd (omega arith)
 
   push_keeps : (w : World) (n : ℕ) (ps : List Placed) → CalmWorld w → Halves n w (push c s w n (w.slots n) ps)

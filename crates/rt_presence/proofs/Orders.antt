@@ -16,12 +16,15 @@ use Rattle.rt_presence.specs.Tracks.{Tracked, track_cmp, place_cmp, track_at, is
 use Rattle.rt_presence.specs.Index.{place_of}
 
 pub place_total : IsTotalOrder place_cmp
-place_total = then_total (on_total (λ (p : Place). p.topic) nat_list_cmp_total) (on_total (λ (p : Place). p.channel) nat_cmp_total)
+place_total = then_total (on_total (λ (p : Place). p.topic) nat_list_cmp_total)
+    (on_total (λ (p : Place). p.channel) nat_cmp_total)
 
 pub track_total : IsTotalOrder track_cmp
 track_total =
-    then_total (on_total (λ (t : TrackKey). t.topic) nat_list_cmp_total) (then_total (on_total (λ (t : TrackKey). t.key) nat_list_cmp_total)
-    (then_total (on_total (λ (t : TrackKey). t.reference) nat_cmp_total) (on_total (λ (t : TrackKey). t.channel) nat_cmp_total)))
+    then_total (on_total (λ (t : TrackKey). t.topic) nat_list_cmp_total)
+    (then_total (on_total (λ (t : TrackKey). t.key) nat_list_cmp_total)
+    (then_total (on_total (λ (t : TrackKey). t.reference) nat_cmp_total)
+    (on_total (λ (t : TrackKey). t.channel) nat_cmp_total)))
 
 pub both_equal : (o p : Ordering) → ordering_then o p ≡ Equal → (o ≡ Equal) × (p ≡ Equal)
 both_equal Less p h = absurd (cc)
@@ -34,7 +37,8 @@ place_at topic channel = record { topic = topic; channel = channel }
 pub place_exact : (p q : Place) → place_cmp p q ≡ Equal → p ≡ q
 place_exact p q h =
     let parts = both_equal _ _ h in
-    ap (λ t. place_at t p.channel) (exact_bytes p.topic q.topic parts.0) ∙ ap (place_at q.topic) (exact_unsigned p.channel q.channel parts.1)
+    ap (λ t. place_at t p.channel) (exact_bytes p.topic q.topic parts.0)
+    ∙ ap (place_at q.topic) (exact_unsigned p.channel q.channel parts.1)
 
 pub track_exact : (t u : TrackKey) → track_cmp t u ≡ Equal → t ≡ u
 track_exact t u h =
@@ -55,7 +59,8 @@ is_eq_true Greater h = absurd (cc)
 pub of_place : (p : Place) (t : Tracked) → is_of p.topic p.channel t ≡ true → place_of t.0 ≡ p
 of_place p t h =
     let parts = and_parts _ _ h in
-    ap (λ x. place_at x t.0.channel) ((bytes_eq-Decides t.0.topic p.topic).0 parts.0) ∙ ap (place_at p.topic) (eqb-true t.0.channel p.channel parts.1)
+    ap (λ x. place_at x t.0.channel) ((bytes_eq-Decides t.0.topic p.topic).0 parts.0)
+    ∙ ap (place_at p.topic) (eqb-true t.0.channel p.channel parts.1)
 
 pub at_place : (p : Place) (t : Tracked) → place_of t.0 ≡ p → is_of p.topic p.channel t ≡ true
 at_place p t e =
@@ -74,7 +79,8 @@ of_is p t =
     (λ h. ap is_eq (ap (place_cmp p) (of_place p t h) ∙ tied_itself place_total p))
 
 -- the track found at a place is told from the others as the channel is
-pub told : (p : Place) (t : TrackKey) (u : Tracked) → place_of t ≡ p → (is_of p.topic p.channel u ≡ true → u.0 ≡ t) → is_eq (track_cmp t u.0) ≡ is_of p.topic p.channel u
+pub told : (p : Place) (t : TrackKey) (u : Tracked) → place_of t ≡ p → (is_of p.topic p.channel u ≡ true → u.0 ≡ t)
+    → is_eq (track_cmp t u.0) ≡ is_of p.topic p.channel u
 told p t u own one =
     same_bool (is_eq (track_cmp t u.0)) (is_of p.topic p.channel u)
     (λ h. at_place p u (ap place_of (sym (track_exact t u.0 (is_eq_true _ h))) ∙ own))

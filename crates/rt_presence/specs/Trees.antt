@@ -27,7 +27,8 @@ is_kept m = not (bytes_eq m.name (codes "phx_ref"))
 
 -- the track's number as `phx_ref`, then the tracked object's members but one of that name
 abbrev pub meta_object : ℕ → Json → Json
-meta_object reference tree = j.Object (field (codes "phx_ref") (Text (decimal reference)) ∷ filter is_kept (members_of tree))
+meta_object reference tree = j.Object
+    (field (codes "phx_ref") (Text (decimal reference)) ∷ filter is_kept (members_of tree))
 
 abbrev pub meta_tree : Meta → Json
 meta_tree m = meta_object m.reference m.tree
@@ -47,7 +48,8 @@ metas_tree held = j.Object (map (metas_of held) (in_order (slice_cmp nat_cmp) (m
 
 -- who joined and who left, as one tree
 abbrev pub joins_and_leaves : List Held → List Held → Json
-joins_and_leaves joins leaves = j.Object (field (codes "joins") (metas_tree joins) ∷ field (codes "leaves") (metas_tree leaves) ∷ [])
+joins_and_leaves joins leaves =
+    j.Object (field (codes "joins") (metas_tree joins) ∷ field (codes "leaves") (metas_tree leaves) ∷ [])
 
 abbrev pub held_of : Tracked → Held
 held_of t = (t.0.key, meta_tree (meta_of t))

@@ -1,4 +1,5 @@
-//! The maps that keep who is present. A change of both leaves the tracks as they were where memory runs out.
+//! The maps that keep who is present. A change of both leaves the tracks as they were where memory
+//! runs out.
 ghost use Rattle.std.specs.Prelude.{◌≡◌, IfOk, OnOk, OnErr};
 ghost use Rattle.std.specs.BTreeMap.{insert_entry};
 ghost use Rattle.rt_presence.specs.Tracks.{without_channel, with_track};

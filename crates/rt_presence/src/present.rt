@@ -51,8 +51,8 @@ impl Presence {
         }
     }
 
-    /// An equal value, of which a change leaves this one as it is. Copies every track with its tree, so its time is that of putting
-    /// in as many tracks. Fails for want of memory alone.
+    /// An equal value, of which a change leaves this one as it is. Copies every track with its
+    /// tree, so its time is that of putting in as many tracks. Fails for want of memory alone.
     pub fn copy(&self) -> Result<Self, AllocError>
         ensures { IfOk result (λ p. p ≡ self.now) }
     {
@@ -129,8 +129,9 @@ impl Presence {
         })
     }
 
-    /// The channel tracks the tree on the topic, under the key and with this number, in place of what it tracked there. Answers the
-    /// difference: the meta that joins, and the former one (which a channel tracks under one key).
+    /// The channel tracks the tree on the topic, under the key and with this number, in place of
+    /// what it tracked there. Answers the difference: the meta that joins, and the former one
+    /// (which a channel tracks under one key).
     ///
     /// Errors: memory ran out. Nothing has changed then.
     pub fn track(
@@ -159,7 +160,8 @@ impl Presence {
         Ok(difference)
     }
 
-    /// The channel tracks nothing on the topic from here on. Answers what leaves; None exactly where the channel tracked nothing there.
+    /// The channel tracks nothing on the topic from here on. Answers what leaves; None exactly
+    /// where the channel tracked nothing there.
     ///
     /// Errors: memory ran out. Nothing has changed then.
     pub fn untrack(&mut self, topic: &Text, channel: u32) -> Result<Option<Diff>, AllocError>
@@ -176,7 +178,8 @@ impl Presence {
         Ok(difference)
     }
 
-    /// The channel departs from the topic. Answers what leaves; None exactly where the channel tracked nothing there.
+    /// The channel departs from the topic. Answers what leaves; None exactly where the channel
+    /// tracked nothing there.
     ///
     /// Errors: memory ran out. Nothing has changed then.
     pub fn drop_channel(&mut self, topic: &Text, channel: u32) -> Result<Option<Diff>, AllocError>
@@ -214,8 +217,8 @@ impl Presence {
         Ok(groups)
     }
 
-    /// The tree of a `presence_state` of the topic: the metas under each key, the keys in byte order and the metas of a key in order of
-    /// their numbers. Fails for want of memory alone.
+    /// The tree of a `presence_state` of the topic: the metas under each key, the keys in byte
+    /// order and the metas of a key in order of their numbers. Fails for want of memory alone.
     pub fn state(&self, topic: &Text) -> Result<Json, AllocError>
         ensures { IfOk result (λ tree. tree ≡ state_tree self.now topic.now) }
     {

@@ -6,7 +6,8 @@ use Rattle.rt_presence.specs.Tracks.{Tracked, track_cmp, place_cmp}
 use Rattle.rt_presence.specs.Index.{value_at}
 use Rattle.rt_presence.proofs.Entries.{without_key}
 use Rattle.rt_presence.proofs.Puts.{put_back}
-use Rattle.rt_presence.proofs.Changes.{indexed_same, moved_to, again_is, again_indexed, fresh_is, fresh_indexed, moved_is, moved_indexed}
+use Rattle.rt_presence.proofs.Changes.{indexed_same, moved_to, again_is, again_indexed, fresh_is, fresh_indexed}
+use Rattle.rt_presence.proofs.Changes.{moved_is, moved_indexed}
 use Rattle.rt_presence.proofs.maps.put.Goals as goal
 
 pub returns-in-Ok-Some-clause-ok : goal.returns-in-Ok-Some-clause-ok
@@ -26,7 +27,8 @@ returns-in-Ok-None-insert-clause-ok c =
     let done = c.in-Ok-None.ensures in
     let placed = c.in-Ok-None-insert.ensures in
     let absent = sym done.old ∙ c.in-Ok-None.field-0-is in
-    let there = ap (value_at place_cmp c.args.places.now.entries) (sym c.requires.place) ∙ sym placed.old ∙ c.in-Ok-None-insert.field-0-is in
+    let there = ap (value_at place_cmp c.args.places.now.entries) (sym c.requires.place) ∙ sym placed.old
+    ∙ c.in-Ok-None-insert.field-0-is in
     fresh_is _ _ c.args.track c.args.tree c.requires.index c.insert.ensures.was_ordered
     _ done.entries done.updates.0 absent there
 
@@ -35,7 +37,8 @@ returns-in-Ok-None-insert-clause-index c =
     let done = c.in-Ok-None.ensures in
     let placed = c.in-Ok-None-insert.ensures in
     let absent = sym done.old ∙ c.in-Ok-None.field-0-is in
-    let there = ap (value_at place_cmp c.args.places.now.entries) (sym c.requires.place) ∙ sym placed.old ∙ c.in-Ok-None-insert.field-0-is in
+    let there = ap (value_at place_cmp c.args.places.now.entries) (sym c.requires.place) ∙ sym placed.old
+    ∙ c.in-Ok-None-insert.field-0-is in
     fresh_indexed _ _ c.args.track c.args.tree c.requires.index c.insert.ensures.was_ordered
     _ done.entries done.updates.0 absent there _
     (moved_to _ _ c.args.place c.args.track c.args.held c.requires.place c.requires.held placed.updates.0)
@@ -45,7 +48,8 @@ returns-in-Ok-Some-insert-clause-ok c =
     let done = c.in-Ok-None.ensures in
     let placed = c.in-Ok-Some-insert.ensures in
     let absent = sym done.old ∙ c.in-Ok-None.field-0-is in
-    let there = ap (value_at place_cmp c.args.places.now.entries) (sym c.requires.place) ∙ sym placed.old ∙ c.in-Ok-Some-insert.field-0-is in
+    let there = ap (value_at place_cmp c.args.places.now.entries) (sym c.requires.place) ∙ sym placed.old
+    ∙ c.in-Ok-Some-insert.field-0-is in
     c.remove.ensures.entries
     ∙ moved_is _ _ c.args.track c.args.tree c.requires.index c.insert.ensures.was_ordered
     _ done.entries done.updates.0 absent c.in-Ok-Some-insert.former there
@@ -55,7 +59,8 @@ returns-in-Ok-Some-insert-clause-index c =
     let done = c.in-Ok-None.ensures in
     let placed = c.in-Ok-Some-insert.ensures in
     let absent = sym done.old ∙ c.in-Ok-None.field-0-is in
-    let there = ap (value_at place_cmp c.args.places.now.entries) (sym c.requires.place) ∙ sym placed.old ∙ c.in-Ok-Some-insert.field-0-is in
+    let there = ap (value_at place_cmp c.args.places.now.entries) (sym c.requires.place) ∙ sym placed.old
+    ∙ c.in-Ok-Some-insert.field-0-is in
     moved_indexed _ _ c.args.track c.args.tree c.requires.index c.insert.ensures.was_ordered
     _ done.entries done.updates.0 absent c.in-Ok-Some-insert.former there
     _ _ c.remove.ensures.entries c.remove.ensures.updates.0

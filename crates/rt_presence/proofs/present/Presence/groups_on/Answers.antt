@@ -16,9 +16,11 @@ pub loop-track-init : goal.loop-track-init
 loop-track-init c =
     let now = c.args.self.now in
     let topic = c.args.topic.now in
-    let rising : IsRising track_cmp now = subst (λ (ts : List Tracked). IsRising track_cmp ts) c.self.view_is c.range-track-items.ensures.ordered in
+    let rising : IsRising track_cmp now =
+    subst (λ (ts : List Tracked). IsRising track_cmp ts) c.self.view_is c.range-track-items.ensures.ordered in
     let walk : c.into_iter-track-iterator.result ≡ entries_from track_cmp now (least_on topic) =
-    c.into_iter-track-iterator.ensures.into_iter_gives ∙ c.range-track-items.ensures.between tt ∙ range_from track_cmp c.in_ok-least.least _
+    c.into_iter-track-iterator.ensures.into_iter_gives ∙ c.range-track-items.ensures.between tt
+    ∙ range_from track_cmp c.in_ok-least.least _
     ∙ ap (λ (ts : List Tracked). entries_from track_cmp ts c.in_ok-least.least) c.self.view_is
     ∙ ap (λ (t : TrackKey). entries_from track_cmp now t) c.in_ok-least.ensures in
     record {
@@ -36,11 +38,14 @@ loop-track-preserved c =
     let behind : List Tracked = c.next.new.self in
     let groups = c.loop-track.groups.items in
     let on : bytes_eq c.in-Some.track.now.topic topic ≡ true =
-    ap (λ (xs : List ℕ). bytes_eq xs topic) (sym c.get.ensures.bytes) ∙ ap (bytes_eq c.get.result.now) (sym c.get-in-loop-track.ensures.bytes) ∙ not-false _ (sym c.ne.ensures ∙ c.if-ne.false) in
+    ap (λ (xs : List ℕ). bytes_eq xs topic) (sym c.get.ensures.bytes)
+    ∙ ap (bytes_eq c.get.result.now) (sym c.get-in-loop-track.ensures.bytes)
+    ∙ not-false _ (sym c.ne.ensures ∙ c.if-ne.false) in
     record {
       ahead = ahead_rest topic here behind (subst (Ahead topic) c.in-Some.ensures.steps c.loop-track.invariant.ahead);
       all =
-          ap (all_put (map held_of (on_topic topic behind))) (c.in_ok-put_last.ensures ∙ ap (λ (meta : Json). put_last (c.in-Some.track.now.key, meta) groups) c.in_ok-meta.ensures)
+          ap (all_put (map held_of (on_topic topic behind))) (c.in_ok-put_last.ensures
+          ∙ ap (λ (meta : Json). put_last (c.in-Some.track.now.key, meta) groups) c.in_ok-meta.ensures)
           ∙ ap (λ (ts : List Tracked). all_put (map held_of ts) groups) (sym (goes_on topic here behind on))
           ∙ ap (λ (ts : List Tracked). all_put (map held_of (on_topic topic ts)) groups) (sym c.in-Some.ensures.steps)
           ∙ c.loop-track.invariant.all;
@@ -52,14 +57,19 @@ returns c =
     let topic = c.args.topic.now in
     let left : List Tracked = c.loop-track.track-iterator in
     let groups = c.loop-track.groups.items in
-    let rising : IsRising track_cmp now = subst (λ (ts : List Tracked). IsRising track_cmp ts) c.self.view_is c.range-track-items.ensures.ordered in
+    let rising : IsRising track_cmp now =
+    subst (λ (ts : List Tracked). IsRising track_cmp ts) c.self.view_is c.range-track-items.ensures.ordered in
     let over : on_topic topic left ≡ [] = elim c.match-next.branch [
       | in-None w ↦ ap (on_topic topic) w.in-None.ensures.steps.0
       | in-Some+then-ne w ↦
           let here : Tracked = (w.in-Some.track.now, w.in-Some.tree.now) in
           let off : bytes_eq w.in-Some.track.now.topic topic ≡ false =
-          ap (λ (xs : List ℕ). bytes_eq xs topic) (sym w.get.ensures.bytes) ∙ ap (bytes_eq w.get.result.now) (sym w.get-in-loop-track.ensures.bytes) ∙ not-true _ (sym w.ne.ensures ∙ w.if-ne.true) in
-          ap (on_topic topic) w.in-Some.ensures.steps ∙ topic_ends topic here c.next.new.self (subst (Ahead topic) w.in-Some.ensures.steps c.loop-track.invariant.ahead) off
+          ap (λ (xs : List ℕ). bytes_eq xs topic) (sym w.get.ensures.bytes)
+          ∙ ap (bytes_eq w.get.result.now) (sym w.get-in-loop-track.ensures.bytes)
+          ∙ not-true _ (sym w.ne.ensures ∙ w.if-ne.true) in
+          ap (on_topic topic) w.in-Some.ensures.steps
+          ∙ topic_ends topic here c.next.new.self
+          (subst (Ahead topic) w.in-Some.ensures.steps c.loop-track.invariant.ahead) off
     ] in
     ap (λ (ts : List Tracked). all_put (map held_of ts) groups) (sym over)
     ∙ c.loop-track.invariant.all

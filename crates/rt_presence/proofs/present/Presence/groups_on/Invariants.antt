@@ -8,5 +8,6 @@ use Rattle.rt_presence.proofs.present.Presence.groups_on.Given as goal
 abbrev pub invariant-loop-track : goal.invariant-loop-track
 invariant-loop-track l = record {
   ahead : Ahead l.topic l.track-iterator;
-  all : all_put (map held_of (on_topic l.topic l.track-iterator)) l.groups.items ≡ all_put (map held_of (on_topic l.topic l.self)) [];
+  all : all_put (map held_of (on_topic l.topic l.track-iterator)) l.groups.items
+      ≡ all_put (map held_of (on_topic l.topic l.self)) [];
 }

@@ -14,5 +14,7 @@ returns c =
     let held : List Held = map held_of (on_topic c.args.topic.now c.args.self.now) in
     let same : groups_tree c.in_ok-groups_on.field-0.items ≡ metas_tree held =
     ap groups_tree c.in_ok-groups_on.ensures
-    ∙ ap (λ (ms : List Member). j.Object ms) (map_map (λ (g : List ℕ × List Json). metas_member g.0 g.1) (λ (key : List ℕ). (key, under_key held key)) (in_order (slice_cmp nat_cmp) (map (λ (h : Held). h.0) held))) in
+    ∙ ap (λ (ms : List Member). j.Object ms)
+    (map_map (λ (g : List ℕ × List Json). metas_member g.0 g.1) (λ (key : List ℕ). (key, under_key held key))
+    (in_order (slice_cmp nat_cmp) (map (λ (h : Held). h.0) held))) in
     subst (λ (tree : Json). IfOk c.groups_tree.result (λ t. t ≡ tree)) same c.groups_tree.ensures
