@@ -176,9 +176,9 @@ module _ (c : Catalog) (s : Settings) where
 
   -- an input more
   pub marks_grow : MarksGrow c s
-  marks_grow before i lane = lane_more c s before i lane
+  marks_grow before i lane = lane_more before i lane
 
   pub entries_grow : EntriesGrow c s
   entries_grow before i lane =
-      ap (map (entry_of c s)) (lane_more c s before i lane)
+      ap (map (entry_of c s)) (lane_more before i lane)
       ∙ map-append (entry_of c s) (lane_marks c s before lane) (marks_of c s lane before i)

@@ -63,7 +63,11 @@ after now i parts =
     }
 
 module _ (c : Catalog) (s : Settings) where
-  -- what an input behind a journal does
+  -- what an input behind a journal finds
+  abbrev pub found_by : List Input → Now
+  found_by journal = now_of (story c s journal)
+
+  -- and what it does
   abbrev pub done_by : List Input → Input → List Part
   done_by journal i = doings c s (now_of (story c s journal)) (tables_left c (story c s journal) i) i
 

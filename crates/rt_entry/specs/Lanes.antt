@@ -37,7 +37,7 @@ module _ (c : Catalog) (s : Settings) where
   abbrev pub EntriesAnswer : Type 0
   EntriesAnswer =
       (before : List Input) (i : Input) (lane : ℕ)
-      → filter (is_in_lane s.workers lane) (flat_map given_by (map (entry_of c s) (marks_of c s lane before i)))
+      → filter (is_in_lane s.workers lane) (flat_map (given_by c s) (map (entry_of c s) (marks_of c s lane before i)))
       ≡ filter (is_in_lane s.workers lane) (answers c s before i)
 
   -- whatever inputs come later, those entries stand at their place in the lane

@@ -29,12 +29,13 @@ use Rattle.rt_entry.specs.Doings.{in_turn, is_of_slot, is_on, channels_of, openi
 use Rattle.rt_entry.specs.Doings.{diffs, leave_diffs, depart, end_of, end_if_open, doings, story}
 use Rattle.rt_entry.specs.Answers.{answer_of, answers_by}
 use Rattle.rt_entry.specs.Presence.{said_to}
-use Rattle.rt_laws.specs.Departures.{leave_for, found_by, heard}
+use Rattle.rt_laws.specs.Departures.{leave_for, heard}
 use Rattle.rt_entry.proofs.Shapes.{AreApart, eqb_same}
 use Rattle.rt_entry.proofs.Sound.{members_in, Shaped, members_apart}
 use Rattle.rt_entry.proofs.Unique.{RisingMembers, members_rising, same_member}
 use Rattle.rt_entry.proofs.Journals.{story_shaped}
 use Rattle.rt_presence.proofs.Agree.{commute}
+use Rattle.rt_entry.specs.After.{found_by}
 
 -- messages to a channel's slot on its topic
 abbrev pub hears : Channel → List Part → List Message

@@ -13,8 +13,9 @@ use Rattle.rt_entry.specs.declared.story.Part.{Part}
 use Rattle.rt_entry.specs.Doings.{doings, posting_parts, may_post, may_send}
 use Rattle.rt_entry.specs.Answers.{answer_of, answers_by}
 use Rattle.rt_laws.specs.Private.{DenialsAreReasons, ReasonsAreDenials, NothingIsDenied, PostsRunOut, EachIsPosted}
-use Rattle.rt_laws.specs.Private.{found_by, tables_by}
+use Rattle.rt_laws.specs.Private.{tables_by}
 use Rattle.rt_catalog.proofs.Found.{bind_some}
+use Rattle.rt_entry.specs.After.{found_by}
 
 pub posts_run_out : (c : Catalog) (s : Settings) → PostsRunOut c s
 unfolding answers_by doings

@@ -13,10 +13,10 @@ use Rattle.rt_entry.specs.declared.story.Part.TheVariants.{Opens, Ends, Tells, J
 use Rattle.rt_entry.specs.declared.answer.Answer.{Answer}
 use Rattle.rt_entry.specs.declared.answer.Answer.TheVariants.{Says}
 use Rattle.rt_entry.specs.Answers.{answer_of, answers_by, answers}
-use Rattle.rt_entry.specs.After.{done_by}
+use Rattle.rt_entry.specs.After.{done_by, found_by}
 use Rattle.rt_entry.specs.Members.{members_of_journal}
 use Rattle.rt_laws.specs.Private.{IsSent, IsPosted, JoinsAreJudged, RenewalsAreJudged, BroadcastsArePermitted}
-use Rattle.rt_laws.specs.Private.{TracksArePermitted, found_by, tables_by}
+use Rattle.rt_laws.specs.Private.{TracksArePermitted, tables_by}
 use Rattle.rt_entry.proofs.Once.{numbers_apart}
 use Rattle.rt_laws.proofs.Shaping.{all_filter_map}
 use Rattle.rt_laws.proofs.PrivateParts.{AreNumbered, Permitted, all_doings}

@@ -28,7 +28,7 @@ use Rattle.rt_entry.specs.Joining.{denied}
 use Rattle.rt_entry.specs.Story.{Now, now_of, tables_left}
 use Rattle.rt_entry.specs.Doings.{story, may_post}
 use Rattle.rt_entry.specs.Answers.{answers}
-use Rattle.rt_entry.specs.After.{done_by}
+use Rattle.rt_entry.specs.After.{done_by, found_by}
 use Rattle.rt_entry.specs.Members.{members_of_journal}
 
 module _ (c : Catalog) where
@@ -72,10 +72,7 @@ module _ (c : Catalog) where
       → denial c rows role claims name use_ ≡ None
 
 module _ (c : Catalog) (s : Settings) where
-  -- what an input behind a journal finds, and the tables that it is judged on
-  abbrev pub found_by : List Input → Now
-  found_by journal = now_of (story c s journal)
-
+  -- the tables that an input behind a journal is judged on
   abbrev pub tables_by : List Input → Input → List (List Row)
   tables_by journal i = tables_left c (story c s journal) i
 
@@ -83,7 +80,7 @@ module _ (c : Catalog) (s : Settings) where
   abbrev pub PostsRunOut : Type 0
   PostsRunOut =
       (before : List Input) (slot : ℕ) (claims : Claims) (messages : List Posting)
-      → is_expired (seconds_of (found_by before).moment) claims.exp ≡ true
+      → is_expired (seconds_of (found_by c s before).moment) claims.exp ≡ true
       → answers c s before (Post slot claims messages) ≡ []
 
   -- without a messages table every message may be posted
@@ -144,7 +141,7 @@ module _ (c : Catalog) (s : Settings) where
     pub message : Posting
     pub known : Contains messages message
     pub topical : channel_topic message ≡ topic
-    pub permitted : may_post c s (found_by before) (tables_by before i) claims message ≡ true
+    pub permitted : may_post c s (found_by c s before) (tables_by before i) claims message ≡ true
 
   abbrev pub BroadcastsArePermitted : Type 0
   BroadcastsArePermitted =
