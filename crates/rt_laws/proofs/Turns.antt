@@ -36,6 +36,7 @@ use Rattle.rt_entry.proofs.Unique.{RisingMembers}
 use Rattle.rt_entry.proofs.Tracked.{Apart}
 use Rattle.rt_laws.proofs.Hears.{hears, hears_append, hears_leave, none_leave}
 use Rattle.rt_presence.proofs.Stands.{number_flip}
+use Rattle.rt_entry.proofs.Opens.{has_turn}
 
 pub view_append : (held : List Held) (xs ys : List Message)
     → client_view held (xs ++ ys) ≡ client_view (client_view held xs) ys
