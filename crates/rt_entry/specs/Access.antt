@@ -1,5 +1,5 @@
--- Which changes a slot may get: only those of a poll, by its own subscriptions that the decision lets through, and only columns that their role may
--- SELECT.
+-- Which changes a slot may get: only those of a poll, by its own subscriptions that the decision lets through, and only
+-- columns that their role may SELECT.
 use Rattle.std.specs.Prelude.{◌≡◌, ◌⊎◌, ℕ, ◌<◌, true, List, map, codes, All, Contains, length, slice_get, Some}
 use Rattle.rt_value.specs.Tables.{rows_of_table}
 use Rattle.rt_json.specs.declared.tree.Json.{Json}
@@ -26,7 +26,8 @@ use Rattle.rt_entry.specs.Answers.{answers}
 
 module _ (c : Catalog) (s : Settings) where
   -- a subscription of the slot, of the change's table, to which the decision sends the change
-  pub record IsSentBy (before : List Input) (changes : List Change) (ch : Change) (slot role : ℕ) (sub : Subscription) : Type 0 where
+  pub record IsSentBy (before : List Input) (changes : List Change) (ch : Change) (slot role : ℕ)
+      (sub : Subscription) : Type 0 where
     pub known : Contains (subscriptions (now_of (story c s before)).members) sub
     pub own : sub.slot ≡ slot
     pub table : is_of_table c ch.table sub ≡ true
@@ -49,7 +50,8 @@ module _ (c : Catalog) (s : Settings) where
   IsRecordName part = (part ≡ codes "record") ⊎ (part ≡ codes "old_record")
 
   abbrev pub IsDeliveredTo : List Input → List Change → Change → Subscription → Type 0
-  IsDeliveredTo before changes ch sub = verdict_of c (rows_of_table (tables_left c (story c s before) (Poll changes))) sub ch ≡ Deliver
+  IsDeliveredTo before changes ch sub =
+      verdict_of c (rows_of_table (tables_left c (story c s before) (Poll changes))) sub ch ≡ Deliver
 
   -- the message was due by this poll and one of its changes, and by all the subscriptions whose ids it has
   pub record IsDueBy (before : List Input) (changes : List Change) (slot : ℕ) (m : Message) : Type 0 where
@@ -64,8 +66,10 @@ module _ (c : Catalog) (s : Settings) where
     -- each is the channel's that is told, not only its slot's
     pub own : All (λ (sub : Subscription). sub.channel ≡ member.channel.number) subs
     pub is : m ≡ change_message (view_of member) (map (λ x. x.id) subs) (shape_of c role s.max_record change)
-    -- it shows values only where every one of these subscriptions has the verdict Deliver, and of columns alone that the role may SELECT
-    pub shows : (part : List ℕ) (tree : Json) → IsRecordName part → member_of (shape_of c role s.max_record change) part ≡ Some tree
+    -- it shows values only where every one of these subscriptions has the verdict Deliver, and of columns alone that
+    -- the role may SELECT
+    pub shows : (part : List ℕ) (tree : Json) → IsRecordName part → member_of (shape_of c role s.max_record change) part
+        ≡ Some tree
         → All (IsDeliveredTo before changes change) subs × ShowsOnly role change.table tree
 
   -- every message of a poll was due so

@@ -53,7 +53,8 @@ spell v (ended name ∷ rest) = item.End name ∷ spell v rest
 abbrev pub items_for : ℕ → Answers → List Item
 items_for slot given = spell V1 (told slot given)
 
--- What a lane is owed: an entry for each pair of its slots, one for a whole poll with all that it needs, and one behind a stop.
+-- What a lane is owed: an entry for each pair of its slots, one for a whole poll with all that it needs, and one behind
+-- a stop.
 pub data Mark : Type 0 where
   answer : ℕ → Answer → Mark
   -- what the poll finds, the tables at its end, and its changes

@@ -13,7 +13,8 @@ use Rattle.rt_change.specs.declared.change.Change.{Change}
 use Rattle.rt_change.specs.declared.decision.Verdict.{Verdict}
 use Rattle.rt_change.specs.declared.decision.Verdict.TheVariants.{Deliver, Error400, Error401, Denied}
 use Rattle.rt_change.specs.declared.decision.Denial.{Denial}
-use Rattle.rt_change.specs.declared.decision.Denial.TheVariants.{Event, Filter, RowGone, NoPolicy, NonePermits, Restrictive}
+use Rattle.rt_change.specs.declared.decision.Denial.TheVariants.{Event, Filter, RowGone, NoPolicy, NonePermits}
+use Rattle.rt_change.specs.declared.decision.Denial.TheVariants.{Restrictive}
 use Rattle.rt_change.specs.Verdicts.{verdict_of, is_truncate}
 use Rattle.rt_entry.specs.declared.input.Input.{Input}
 use Rattle.rt_entry.specs.declared.input.Input.TheVariants.{Poll}
@@ -21,7 +22,8 @@ use Rattle.rt_entry.specs.declared.input.Settings.{Settings}
 use Rattle.rt_entry.specs.Story.{now_of, tables_left}
 use Rattle.rt_entry.specs.Doings.{story, subscriptions}
 
--- the verdict on a change for a subscription: the poll's number in the journal, the change's place in the poll, its table, the subscription's id
+-- the verdict on a change for a subscription: the poll's number in the journal, the change's place in the poll, its
+-- table, the subscription's id
 pub record Judged : Type 0 where
   pub poll : ℕ
   pub place : ℕ
@@ -32,14 +34,22 @@ pub record Judged : Type 0 where
 module _ (c : Catalog) where
   abbrev pub judged_by : ℕ → List (List Row) → ℕ × Change → Subscription → Judged
   judged_by poll tables n sub =
-      record { poll = poll; place = n.0; table = n.1.table; subscription = sub.id; verdict = verdict_of c (rows_of_table tables) sub n.1 }
+      record {
+        poll = poll;
+        place = n.0;
+        table = n.1.table;
+        subscription = sub.id;
+        verdict = verdict_of c (rows_of_table tables) sub n.1;
+      }
 
   abbrev pub judged_change : ℕ → List (List Row) → List Subscription → ℕ × Change → List Judged
   judged_change poll tables subs n = map (judged_by poll tables n) (filter (is_of_table c n.1.table) subs)
 
-  -- the verdicts of a poll, by what its entry holds: for each change but truncates, each subscription of its table by id
+  -- the verdicts of a poll, by what its entry holds: for each change but truncates, each subscription of its table by
+  -- id
   unfoldable pub judged_poll : ℕ → List (List Row) → List Subscription → List Change → List Judged
-  judged_poll poll tables subs changes = flat_map (judged_change poll tables subs) (filter (λ n. not (is_truncate n.1.verb)) (enumerate_from 0 changes))
+  judged_poll poll tables subs changes =
+      flat_map (judged_change poll tables subs) (filter (λ n. not (is_truncate n.1.verb)) (enumerate_from 0 changes))
 
   abbrev pub policy_name : ℕ → ℕ → List ℕ
   policy_name table n = unwrap_or (option_map (λ p. p.name) (rules_at c table >>= λ t. slice_get t.policies n)) []
@@ -60,12 +70,14 @@ module _ (c : Catalog) where
 
   -- the poll's number, the change's place, the subscription and the verdict, with blanks between them
   abbrev pub audit_line : Judged → List ℕ
-  audit_line j = decimal j.poll ++ 32 ∷ decimal j.place ++ 32 ∷ decimal j.subscription ++ 32 ∷ verdict_text j.table j.verdict ++ 10 ∷ []
+  audit_line j = decimal j.poll ++ 32 ∷ decimal j.place ++ 32 ∷ decimal j.subscription
+      ++ 32 ∷ verdict_text j.table j.verdict ++ 10 ∷ []
 
 module _ (c : Catalog) (s : Settings) where
   abbrev pub judged_input : List Input → Input → List Judged
   judged_input before (Poll changes) =
-      judged_poll c (length before) (tables_left c (story c s before) (Poll changes)) (subscriptions (now_of (story c s before)).members) changes
+      judged_poll c (length before) (tables_left c (story c s before) (Poll changes))
+      (subscriptions (now_of (story c s before)).members) changes
   judged_input before i = []
 
   -- all verdicts of a journal, the first poll's first

@@ -1,5 +1,8 @@
--- What each input does, by cases, asked of all that stands before it (the Realtime protocol, "Channels", "Broadcast", "Presence", "Postgres Changes").
-use Rattle.std.specs.Prelude.{ℕ, ◌==◌, ◌+◌, nat_lt, nat_le, Bool, true, false, ◌&&◌, ◌||◌, not, if◌then◌else◌, List, [], ◌∷◌, ◌++◌, map, length, codes, find, slice_get, Option, Some, None, is_none, option_to_list, Ok, Err}
+-- What each input does, by cases, asked of all that stands before it (the Realtime protocol, "Channels", "Broadcast",
+-- "Presence", "Postgres Changes").
+use Rattle.std.specs.Prelude.{ℕ, ◌==◌, ◌+◌, nat_lt, nat_le, Bool, true, false, ◌&&◌, ◌||◌, not, if◌then◌else◌, List, []}
+use Rattle.std.specs.Prelude.{◌∷◌, ◌++◌, map, length, codes, find, slice_get, Option, Some, None, is_none}
+use Rattle.std.specs.Prelude.{option_to_list, Ok, Err}
 use Rattle.std.specs.List.{filter, flat_map, enumerate_from}
 use Rattle.std.specs.Str.{bytes_eq}
 use Rattle.rt_value.specs.declared.claims.Claims.{Claims}
@@ -16,7 +19,8 @@ use Rattle.rt_phx.specs.declared.end.EndName.{EndName}
 use Rattle.rt_phx.specs.declared.end.EndName.TheVariants as end_name
 use Rattle.rt_phx.specs.Frame.{message_of, no_members}
 use Rattle.rt_phx.specs.Says.{reply_ok, reply_error}
-use Rattle.rt_phx.specs.Asks.{Ask, leave, renew, track, untrack, unknown_presence, nothing, ask_of, is_heartbeat, is_join, is_presence, is_channel_topic}
+use Rattle.rt_phx.specs.Asks.{Ask, leave, renew, track, untrack, unknown_presence, nothing, ask_of, is_heartbeat}
+use Rattle.rt_phx.specs.Asks.{is_join, is_presence, is_channel_topic}
 use Rattle.rt_phx.specs.Asks as ask
 use Rattle.rt_phx.specs.Posts.{channel_topic, posted_payload}
 use Rattle.rt_filter.specs.declared.subscription.Subscription.{Subscription}
@@ -39,7 +43,8 @@ use Rattle.rt_entry.specs.declared.story.Track.{Track}
 use Rattle.rt_entry.specs.declared.story.Part.{Part}
 use Rattle.rt_entry.specs.declared.story.Part.TheVariants.{Opens, Ends, Tells, Joins, Renews, Tracks, Untracks, Departs}
 use Rattle.rt_entry.specs.declared.entry.ChannelView.{ChannelView}
-use Rattle.rt_entry.specs.Messages.{close_message, subscribed_message, failed_message, joined_response, presence_state, presence_diff, broadcast_message, change_message}
+use Rattle.rt_entry.specs.Messages.{close_message, subscribed_message, failed_message, joined_response, presence_state}
+use Rattle.rt_entry.specs.Messages.{presence_diff, broadcast_message, change_message}
 use Rattle.rt_entry.specs.Joining.{Checked, denied, channel_of_join, renewal_of}
 use Rattle.rt_entry.specs.Story.{Story, Now, now_of, tables_left, has, departed_in}
 
@@ -161,11 +166,18 @@ broadcast_parts now ch m =
 
 -- presence
 abbrev pub track_by : Now → Channel → Json → Track
-track_by now ch tree = record { reference = now.number; channel = ch.number; topic = ch.topic; key = ch.key; tree = tree }
+track_by now ch tree = record {
+  reference = now.number;
+  channel = ch.number;
+  topic = ch.topic;
+  key = ch.key;
+  tree = tree;
+}
 
 abbrev pub track_parts : Now → Channel → Message → Track → List Part
 track_parts now ch m t =
-    tell ch.slot (reply_ok ch.join_ref m no_members) ++ Tracks t ∷ diffs now [] ch.topic (t ∷ []) (option_to_list (track_of now ch.number))
+    tell ch.slot (reply_ok ch.join_ref m no_members)
+    ++ Tracks t ∷ diffs now [] ch.topic (t ∷ []) (option_to_list (track_of now ch.number))
 
 abbrev pub untrack_part : ℕ → Option Track → List Part
 untrack_part channel None = []
@@ -216,18 +228,25 @@ stop_parts now (slot, Some o) = map departs_of (channels_of now slot) ++ Ends sl
 
 -- Post. Each channel of the message's topic gets it, in join order.
 abbrev pub posting_parts : Now → Posting → List Part
-posting_parts now p = map (broadcast_part (posted_payload p)) (filter (λ to. is_on (channel_topic p) to.channel) now.members)
+posting_parts now p = map (broadcast_part (posted_payload p))
+    (filter (λ to. is_on (channel_topic p) to.channel) now.members)
 
 -- the subscriptions of the members, by id
 abbrev pub subscriptions_of : Member → List Subscription
 subscriptions_of h =
-    map (subscription_of h.channel.number h.channel.slot h.standing.role h.standing.claims) (enumerate_from h.channel.first_id h.channel.bindings)
+    map (subscription_of h.channel.number h.channel.slot h.standing.role h.standing.claims)
+    (enumerate_from h.channel.first_id h.channel.bindings)
 
 unfoldable pub subscriptions : List Member → List Subscription
 subscriptions members = flat_map subscriptions_of members
 
 abbrev pub view_of : Member → ChannelView
-view_of h = record { channel = h.channel.number; slot = h.channel.slot; topic = h.channel.topic; join_ref = h.channel.join_ref }
+view_of h = record {
+  channel = h.channel.number;
+  slot = h.channel.slot;
+  topic = h.channel.topic;
+  join_ref = h.channel.join_ref;
+}
 
 abbrev pub opening_of : Now → Version → Claims → Opening
 opening_of now version claims = record { version = version; claims = claims; heard = now.moment }
@@ -259,7 +278,8 @@ module _ (c : Catalog) (s : Settings) where
     ask_parts o h m ask.broadcast = broadcast_parts now h.channel m
     ask_parts o h m (track tree) = track_parts now h.channel m (track_by now h.channel tree)
     ask_parts o h m untrack = untrack_parts now h.channel m
-    ask_parts o h m unknown_presence = tell h.channel.slot (reply_error h.channel.join_ref m (codes "unknown presence event"))
+    ask_parts o h m unknown_presence =
+        tell h.channel.slot (reply_error h.channel.join_ref m (codes "unknown presence event"))
     ask_parts o h m nothing = []
 
     abbrev pub permitted_parts : Opening → Member → Message → List Part
@@ -295,7 +315,8 @@ module _ (c : Catalog) (s : Settings) where
     abbrev pub may_send : Claims → List ℕ → ℕ → Bool
     may_send claims name role = is_none (denied c tables role claims name private.send)
 
-    -- claims may post a message: always without a messages table, and else where their role is known and has the right to send to its topic
+    -- claims may post a message: always without a messages table, and else where their role is known and has the right
+    -- to send to its topic
     abbrev pub may_post : Claims → Posting → Bool
     may_post claims p = is_none (messages_of c) || is_at (may_send claims p.topic) (role_named c claims.role)
 
@@ -309,19 +330,23 @@ module _ (c : Catalog) (s : Settings) where
 
   -- Poll. A subscription of a channel gets the change, as it is or as an error.
   abbrev pub gets : List (List Row) → Change → ℕ → Subscription → Bool
-  gets tables ch channel sub = (sub.channel == channel) && is_of_table c ch.table sub && is_sent (verdict_of c (rows_of_table tables) sub ch)
+  gets tables ch channel sub = (sub.channel == channel) && is_of_table c ch.table sub
+      && is_sent (verdict_of c (rows_of_table tables) sub ch)
 
-  -- one message for the subscriptions of a channel that get the change; they share the channel's role, so the data is one
+  -- one message for the subscriptions of a channel that get the change; they share the channel's role, so the data is
+  -- one
   abbrev pub change_parts : ChannelView → Change → List Subscription → List Part
   change_parts to ch [] = []
-  change_parts to ch (sub ∷ more) = tell to.slot (change_message to (map (λ x. x.id) (sub ∷ more)) (shape_of c sub.role s.max_record ch))
+  change_parts to ch (sub ∷ more) =
+      tell to.slot (change_message to (map (λ x. x.id) (sub ∷ more)) (shape_of c sub.role s.max_record ch))
 
   abbrev pub change_parts_to : List Subscription → List (List Row) → Change → ChannelView → List Part
   change_parts_to subs tables ch to = change_parts to ch (filter (gets tables ch to.channel) subs)
 
   -- each channel in join order; a truncate is sent to nobody
   abbrev pub change_parts_to_all : List Subscription → List (List Row) → List ChannelView → Change → List Part
-  change_parts_to_all subs tables views ch = elim (is_truncate ch.verb) [ true ↦ [] | false ↦ flat_map (change_parts_to subs tables ch) views ]
+  change_parts_to_all subs tables views ch =
+      elim (is_truncate ch.verb) [ true ↦ [] | false ↦ flat_map (change_parts_to subs tables ch) views ]
 
   -- what a poll does, by what its entry holds alone
   unfoldable pub poll_parts : List Subscription → List (List Row) → List ChannelView → List Change → List Part
@@ -340,4 +365,5 @@ module _ (c : Catalog) (s : Settings) where
   -- each input of a journal with what it did
   unfoldable pub story : List Input → Story
   story [] = []
-  story (i ∷ before) = record { input = i; parts = doings (now_of (story before)) (tables_left c (story before) i) i } ∷ story before
+  story (i ∷ before) = record { input = i; parts = doings (now_of (story before)) (tables_left c (story before) i) i }
+      ∷ story before

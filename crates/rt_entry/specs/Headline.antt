@@ -1,5 +1,5 @@
--- Whatever steps are made, each slot was given a prefix of what is due to it, all of it once its worker is at rest, and only its own full outbox
--- cuts it short.
+-- Whatever steps are made, each slot was given a prefix of what is due to it, all of it once its worker is at rest, and
+-- only its own full outbox cuts it short.
 use Rattle.std.specs.Prelude.{◌≡◌, ◌≢◌, ◌⊎◌, ℕ, ◌<◌, ◌≤◌, List, [], ◌∷◌, ◌++◌, All, ⊤}
 use Rattle.rt_catalog.specs.declared.catalog.Catalog.{Catalog}
 use Rattle.rt_change.specs.Binding.{IsBound}
@@ -7,7 +7,8 @@ use Rattle.rt_entry.specs.declared.input.Input.{Input}
 use Rattle.rt_entry.specs.declared.input.Input.TheVariants.{Opened, Frame, Gone, Post, Poll, Tick, Stop}
 use Rattle.rt_entry.specs.declared.input.Settings.{Settings}
 use Rattle.rt_entry.specs.declared.input.Step.{Step}
-use Rattle.rt_entry.specs.declared.input.Step.TheVariants.{Arrive, Feed, Take, TakeFeed, TakeClock, Send, Work, Push, Pop}
+use Rattle.rt_entry.specs.declared.input.Step.TheVariants.{Arrive, Feed, Take, TakeFeed, TakeClock, Send, Work, Push}
+use Rattle.rt_entry.specs.declared.input.Step.TheVariants.{Pop}
 use Rattle.rt_entry.specs.Story.{slot_count}
 use Rattle.rt_entry.specs.Answers.{due}
 use Rattle.rt_entry.specs.Machine.{World, Cut, start, run, step_of, shown, outbox, messages_in, IsAtRest}
@@ -41,15 +42,19 @@ module _ (c : Catalog) (s : Settings) where
     pub put : ((step_of c s w x).1.slots slot).cuts ≡ (w.slots slot).cuts ++ cut ∷ []
 
   abbrev pub CutsAreOwn : Type 0
-  CutsAreOwn = (w : World) (x : Step) (slot : ℕ) → (((step_of c s w x).1.slots slot).cuts ≡ (w.slots slot).cuts) ⊎ IsOwnCut w x slot
+  CutsAreOwn = (w : World) (x : Step) (slot : ℕ) → (((step_of c s w x).1.slots slot).cuts ≡ (w.slots slot).cuts)
+      ⊎ IsOwnCut w x slot
 
-  -- after any list of steps an outbox holds at most as many messages as it can, so where a push cuts it holds exactly that many
+  -- after any list of steps an outbox holds at most as many messages as it can, so where a push cuts it holds exactly
+  -- that many
   abbrev pub OutboxesAreWithin : Type 0
-  OutboxesAreWithin = (steps : List Step) (slot : ℕ) → messages_in (outbox ((run c s steps start).slots slot)) ≤ s.capacity
+  OutboxesAreWithin = (steps : List Step) (slot : ℕ)
+      → messages_in (outbox ((run c s steps start).slots slot)) ≤ s.capacity
 
   -- no other step changes what a slot was given
   abbrev pub OthersAreUntouched : Type 0
-  OthersAreUntouched = (w : World) (x : Step) (slot : ℕ) → x ≢ Push slot → x ≢ Pop slot → IsUntouched w (step_of c s w x).1 slot
+  OthersAreUntouched = (w : World) (x : Step) (slot : ℕ) → x ≢ Push slot → x ≢ Pop slot
+      → IsUntouched w (step_of c s w x).1 slot
 
   -- a push changes neither the journal nor a lane
   pub record KeepsTheRest (w : World) (slot : ℕ) : Type 0 where
@@ -67,7 +72,8 @@ MayArrive (Gone slot) = slot < slot_count
 MayArrive (Post slot claims ps) = slot < slot_count
 MayArrive _ = ⊥
 
--- what may be fed, where m is the latest tick before: polls of changes that records are bound to, ticks no earlier, a stop
+-- what may be fed, where m is the latest tick before: polls of changes that records are bound to, ticks no earlier, a
+-- stop
 abbrev pub MayFeed : Catalog → ℕ → Input → Type 0
 MayFeed c m (Poll changes) = All (IsBound c) changes
 MayFeed c m (Tick n) = m ≤ n

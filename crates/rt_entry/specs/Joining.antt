@@ -1,6 +1,7 @@
--- Whether a join or a renewal is accepted, and what it makes of the channel; or the first reason against it (the Realtime protocol, "Joining a
--- channel"; the reasons' texts are this project's).
-use Rattle.std.specs.Prelude.{ℕ, ◌+◌, nat_lt, Bool, true, false, ◌&&◌, not, List, [], ◌++◌, map, codes, Option, Some, None, is_none, is_some, Result, Ok, Err}
+-- Whether a join or a renewal is accepted, and what it makes of the channel; or the first reason against it (the
+-- Realtime protocol, "Joining a channel"; the reasons' texts are this project's).
+use Rattle.std.specs.Prelude.{ℕ, ◌+◌, nat_lt, Bool, true, false, ◌&&◌, not, List, [], ◌++◌, map, codes, Option, Some}
+use Rattle.std.specs.Prelude.{None, is_none, is_some, Result, Ok, Err}
 use Rattle.std.specs.Fmt.{decimal}
 use Rattle.std.specs.Str.{bytes_eq}
 use Rattle.rt_value.specs.declared.claims.Claims.{Claims}
@@ -15,6 +16,7 @@ use Rattle.rt_phx.specs.Joins.{Asked, Config, config_of}
 use Rattle.rt_phx.specs.Asks.{name_in}
 use Rattle.rt_catalog.specs.declared.catalog.Catalog.{Catalog}
 use Rattle.rt_registry.specs.declared.binding.Binding.{Binding}
+use Rattle.rt_registry.specs.declared.binding.Subscribed.{Subscribed}
 use Rattle.rt_registry.specs.declared.fault.RegistryFault.{RegistryFault}
 use Rattle.rt_registry.specs.declared.fault.RegistryFault.TheVariants.{NoMemory, UnknownRole, Limit, BadBinding}
 use Rattle.rt_registry.specs.Bindings.{role_for, bindings_for, why_text}
@@ -59,7 +61,13 @@ channel_limit = 100
 
 abbrev pub binding_of : Asked → Binding
 binding_of a =
-    record { wanted = a.event; schema = a.schema; table = a.table; filters = a.filters.texts; listed = a.filters.listed }
+    record {
+      wanted = a.event;
+      schema = a.schema;
+      table = a.table;
+      filters = a.filters.texts;
+      listed = a.filters.listed;
+    }
 
 -- the key that a channel tracks under: without one, or with an empty one, the join's number
 abbrev pub key_of : ℕ → List ℕ → List ℕ
@@ -104,9 +112,26 @@ module _ (c : Catalog) (tables : List (List Row)) where
   abbrev pub has_presence : Config → List ℕ → Standing → Bool
   has_presence config name x = config.presence && is_none (denied x.role x.claims name private.presence)
 
+  -- the channel that a join makes of its payload, its standing and its bindings
+  abbrev pub made_channel : Now → ℕ → Message → Config → Standing → List Subscribed → Channel
+  made_channel now slot m config standing bindings =
+      record {
+        number = now.number;
+        slot = slot;
+        topic = m.topic;
+        join_ref = join_ref_of m;
+        standing = standing;
+        bindings = bindings;
+        first_id = now.ids + 1;
+        ack = config.ack;
+        own = config.own;
+        presence = has_presence config (name_in m.topic) standing;
+        key = key_of now.number config.key;
+      }
+
   module _ (s : Settings) (now : Now) where
-    -- The channel that a join makes, or the first reason against it. `others` is how many channels the slot has beside one of the same topic; the tables
-    -- are those before the join.
+    -- The channel that a join makes, or the first reason against it. `others` is how many channels the slot has beside
+    -- one of the same topic; the tables are those before the join.
     unfoldable pub channel_of_join : ℕ → Opening → ℕ → Message → Checked Channel
     channel_of_join slot o others m =
         or_why (codes "bad config") (config_of m.payload) >> λ config.
@@ -115,21 +140,10 @@ module _ (c : Catalog) (tables : List (List Row)) where
         standing_for (name_in m.topic) claims >> λ standing.
         demand (nat_lt others channel_limit) (codes "too many channels") >> λ _.
         told_by registry_text (bindings_for c claims (map binding_of config.bindings)) >> λ bindings.
-        Ok (record {
-          number = now.number;
-          slot = slot;
-          topic = m.topic;
-          join_ref = join_ref_of m;
-          standing = standing;
-          bindings = bindings;
-          first_id = now.ids + 1;
-          ack = config.ack;
-          own = config.own;
-          presence = has_presence config (name_in m.topic) standing;
-          key = key_of now.number config.key;
-        })
+        Ok (made_channel now slot m config standing bindings)
 
-    -- what a token makes of a channel, or the first reason against it: the token, the role, the right to join, the channel's bindings
+    -- what a token makes of a channel, or the first reason against it: the token, the role, the right to join, the
+    -- channel's bindings
     unfoldable pub renewal_of : Opening → Channel → Json → Checked Standing
     renewal_of o ch token =
         asked_claims s now o (Some token) >> λ claims.

@@ -1,11 +1,17 @@
 pub mod Access
+pub mod After
 pub mod Answers
 pub mod Audit
 pub mod Doings
+pub mod Fan
 pub mod Headline
+pub mod Ids
 pub mod Joining
+pub mod Lanes
 pub mod Machine
+pub mod Members
 pub mod Messages
 pub mod Presence
 pub mod Readable
 pub mod Story
+pub mod Tracks

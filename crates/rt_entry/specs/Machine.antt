@@ -1,5 +1,7 @@
--- The machine of steps: inputs arrive, the journal takes them, lanes carry what is owed to their workers, and outboxes are given items.
-use Rattle.std.specs.Prelude.{◌≡◌, ℕ, ◌==◌, ◌+◌, ◌-◌, ◌%◌, nat_lt, nat_le, Bool, true, false, ◌&&◌, not, List, [], ◌∷◌, ◌++◌, length, drop, take, sum_by, count_by, find, Option, Some, None}
+-- The machine of steps: inputs arrive, the journal takes them, lanes carry what is owed to their workers, and outboxes
+-- are given items.
+use Rattle.std.specs.Prelude.{◌≡◌, ℕ, ◌==◌, ◌+◌, ◌-◌, ◌%◌, nat_lt, nat_le, Bool, true, false, ◌&&◌, not, List, [], ◌∷◌}
+use Rattle.std.specs.Prelude.{◌++◌, length, drop, take, sum_by, count_by, find, Option, Some, None}
 use Rattle.std.specs.List.{list_any, filter, flat_map}
 use Rattle.rt_phx.specs.declared.end.EndName.TheVariants.{OutboxFull}
 use Rattle.rt_catalog.specs.declared.catalog.Catalog.{Catalog}
@@ -7,15 +9,16 @@ use Rattle.rt_entry.specs.declared.input.Input.{Input}
 use Rattle.rt_entry.specs.declared.input.Input.TheVariants.{Opened, Frame, Gone, Post, Poll, Tick}
 use Rattle.rt_entry.specs.declared.input.Settings.{Settings}
 use Rattle.rt_entry.specs.declared.input.Step.{Step}
-use Rattle.rt_entry.specs.declared.input.Step.TheVariants.{Arrive, Feed, Take, TakeFeed, TakeClock, Send, Work, Push, Pop}
+use Rattle.rt_entry.specs.declared.input.Step.TheVariants.{Arrive, Feed, Take, TakeFeed, TakeClock, Send, Work, Push}
+use Rattle.rt_entry.specs.declared.input.Step.TheVariants.{Pop}
 use Rattle.rt_entry.specs.declared.answer.Item.{Item}
 use Rattle.rt_entry.specs.declared.answer.Item.TheVariants.{Message, End}
 use Rattle.rt_entry.specs.Story.{tables_left}
 use Rattle.rt_entry.specs.Doings.{story}
 use Rattle.rt_entry.specs.Answers.{lane_marks, answers_of_marks, items_for}
 
--- An opening that its own full outbox cut short: its number on the slot, which is how many terminators stand before it, and the place of the first
--- item that the slot wasn't given.
+-- An opening that its own full outbox cut short: its number on the slot, which is how many terminators stand before it,
+-- and the place of the first item that the slot wasn't given.
 pub record Cut : Type 0 where
   pub opening : ℕ
   pub place : ℕ
@@ -64,7 +67,8 @@ opening_after (End name) opening = opening + 1
 
 abbrev pub placed_from : ℕ → ℕ → List Item → List Placed
 placed_from place opening [] = []
-placed_from place opening (x ∷ xs) = record { place = place; opening = opening; item = x } ∷ placed_from (place + 1) (opening_after x opening) xs
+placed_from place opening (x ∷ xs) = record { place = place; opening = opening; item = x }
+    ∷ placed_from (place + 1) (opening_after x opening) xs
 
 abbrev pub placed : List Item → List Placed
 placed items = placed_from 0 0 items
@@ -144,14 +148,21 @@ with_given x p = record x { given = x.given ++ p.item ∷ []; past = p.place + 1
 
 abbrev pub with_cut : Slot → Placed → Slot
 with_cut x p =
-    record x { given = x.given ++ End OutboxFull ∷ []; past = p.place + 1; cuts = x.cuts ++ record { opening = p.opening; place = p.place } ∷ [] }
+    record x {
+      given = x.given ++ End OutboxFull ∷ [];
+      past = p.place + 1;
+      cuts = x.cuts ++ record { opening = p.opening; place = p.place } ∷ [];
+    }
 
 abbrev pub pop : World → ℕ → Slot → List Item → Outcome × World
 pop w slot x [] = (empty, w)
 pop w slot x (i ∷ is) = (done, with_slot w slot (record x { popped = x.popped + 1 }))
 
 abbrev pub work : World → ℕ → Lane → Outcome × World
-work w l x = elim (x.worked == x.sent) [ true ↦ (empty, w) | false ↦ (done, with_lane w l (record x { worked = x.worked + 1 })) ]
+work w l x = elim (x.worked == x.sent) [
+  | true ↦ (empty, w)
+  | false ↦ (done, with_lane w l (record x { worked = x.worked + 1 }))
+]
 
 module _ (c : Catalog) (s : Settings) where
   -- the lane of a slot
@@ -163,7 +174,8 @@ module _ (c : Catalog) (s : Settings) where
 
   -- the items that the lane's worker has made of a slot
   abbrev pub worked_items : World → ℕ → List Item
-  worked_items w slot = items_for slot (answers_of_marks c s (take (lane_in w slot).worked (lane_marks c s w.journal (lane_of slot))))
+  worked_items w slot = items_for slot
+      (answers_of_marks c s (take (lane_in w slot).worked (lane_marks c s w.journal (lane_of slot))))
 
   -- those from the slot's place on whose opening isn't cut
   unfoldable pub pending : World → ℕ → List Placed
@@ -179,7 +191,10 @@ module _ (c : Catalog) (s : Settings) where
   take_input w rest i =
       elim (nat_le s.inputs (length w.journal)) [
         | true ↦ (spent, w)
-        | false ↦ elim (nat_lt s.rows (rows_left w.journal i)) [ true ↦ (rows_full, w) | false ↦ (done, record (rest w) { journal = i ∷ w.journal }) ]
+        | false ↦ elim (nat_lt s.rows (rows_left w.journal i)) [
+          | true ↦ (rows_full, w)
+          | false ↦ (done, record (rest w) { journal = i ∷ w.journal })
+        ]
       ]
 
   abbrev pub take_first : World → List Input → (List Input → World → World) → Outcome × World
@@ -188,7 +203,10 @@ module _ (c : Catalog) (s : Settings) where
 
   -- an input goes last into a list; where that is full it is lost
   abbrev pub arrive : World → List Input → (List Input → World → World) → Input → Outcome × World
-  arrive w inputs put i = elim (nat_lt (length inputs) s.inlet) [ true ↦ (done, put (inputs ++ i ∷ []) w) | false ↦ (full, w) ]
+  arrive w inputs put i = elim (nat_lt (length inputs) s.inlet) [
+    | true ↦ (done, put (inputs ++ i ∷ []) w)
+    | false ↦ (full, w)
+  ]
 
   abbrev pub arrive_at : World → Input → Option ℕ → Outcome × World
   arrive_at w i None = (full, w)
@@ -201,7 +219,10 @@ module _ (c : Catalog) (s : Settings) where
   send w l x =
       elim (x.sent == length (lane_marks c s w.journal l)) [
         | true ↦ (empty, w)
-        | false ↦ elim (x.sent - x.worked == s.lane) [ true ↦ (full, w) | false ↦ (done, with_lane w l (record x { sent = x.sent + 1 })) ]
+        | false ↦ elim (x.sent - x.worked == s.lane) [
+          | true ↦ (full, w)
+          | false ↦ (done, with_lane w l (record x { sent = x.sent + 1 }))
+        ]
       ]
 
   -- a message finds no place where the outbox holds `capacity` messages; a terminator always has its place
@@ -210,7 +231,10 @@ module _ (c : Catalog) (s : Settings) where
 
   abbrev pub push : World → ℕ → Slot → List Placed → Outcome × World
   push w slot x [] = (empty, w)
-  push w slot x (p ∷ ps) = elim (is_full_for x p.item) [ true ↦ (full, with_slot w slot (with_cut x p)) | false ↦ (done, with_slot w slot (with_given x p)) ]
+  push w slot x (p ∷ ps) = elim (is_full_for x p.item) [
+    | true ↦ (full, with_slot w slot (with_cut x p))
+    | false ↦ (done, with_slot w slot (with_given x p))
+  ]
 
   -- one step: its answer, and the world after it
   unfoldable pub step_of : World → Step → Outcome × World

@@ -42,13 +42,15 @@ tree_field name (Some tree) = field name tree ∷ []
 -- a binding with its id; table and filters where the client gave them
 abbrev pub binding_tree : ℕ × Subscribed → Json
 binding_tree b =
-    j.Object (field (codes "id") (number_tree b.0) ∷ field (codes "event") (Text b.1.binding.wanted) ∷ field (codes "schema") (Text b.1.binding.schema)
+    j.Object (field (codes "id") (number_tree b.0) ∷ field (codes "event") (Text b.1.binding.wanted)
+    ∷ field (codes "schema") (Text b.1.binding.schema)
     ∷ tree_field (codes "table") (option_map Text b.1.binding.table)
     ++ tree_field (codes "filter") (filter_tree b.1.binding.listed b.1.binding.filters))
 
 -- the response to an accepted join
 abbrev pub joined_response : Channel → Json
-joined_response c = j.Object (field (codes "postgres_changes") (j.List (map binding_tree (enumerate_from c.first_id c.bindings))) ∷ [])
+joined_response c = j.Object (field (codes "postgres_changes")
+    (j.List (map binding_tree (enumerate_from c.first_id c.bindings))) ∷ [])
 
 abbrev pub meta_tree : Track → Json
 meta_tree t = meta_object t.reference t.tree
@@ -61,7 +63,8 @@ abbrev pub presence_state : Channel → List Track → Message
 presence_state c tracks = channel_message c (codes "presence_state") (metas_tree (map shown_meta tracks))
 
 abbrev pub presence_diff : Channel → List Track → List Track → Message
-presence_diff c joins leaves = channel_message c (codes "presence_diff") (joins_and_leaves (map shown_meta joins) (map shown_meta leaves))
+presence_diff c joins leaves =
+    channel_message c (codes "presence_diff") (joins_and_leaves (map shown_meta joins) (map shown_meta leaves))
 
 abbrev pub broadcast_message : Channel → Json → Message
 broadcast_message c payload = channel_message c (codes "broadcast") payload

@@ -1,5 +1,6 @@
 -- The presence that a client holds, message by message (the Realtime protocol, "Presence").
-use Rattle.std.specs.Prelude.{◌≡◌, ℕ, suc, ◌==◌, ◌<◌, ◌^◌, nat_le, true, false, not, ◌&&◌, List, [], ◌∷◌, ◌++◌, map, length, codes, Option, Some, None, count_by, IsPermutation, Contains}
+use Rattle.std.specs.Prelude.{◌≡◌, ℕ, zero, suc, ◌==◌, ◌<◌, ◌^◌, nat_le, true, false, not, ◌&&◌, List, [], ◌∷◌, ◌++◌}
+use Rattle.std.specs.Prelude.{map, length, take, codes, Option, Some, None, count_by, IsPermutation, Contains}
 use Rattle.std.specs.List.{AllByRecursion, filter, filter_map}
 use Rattle.std.specs.Str.{bytes_eq}
 use Rattle.rt_value.specs.Choice.{◌>>=◌, first_case}
@@ -26,7 +27,7 @@ use Rattle.rt_entry.specs.Story.{opening_at, members_at, present_at}
 use Rattle.rt_entry.specs.Messages.{shown_meta}
 use Rattle.rt_entry.specs.Doings.{story}
 use Rattle.rt_entry.specs.Answers.{told, answers, due}
-use Rattle.rt_entry.specs.Machine.{World, is_message, start, run}
+use Rattle.rt_entry.specs.Machine.{is_message, start, run}
 use Rattle.rt_entry.specs.Readable.{payload_levels, IsOfLines}
 
 abbrev pub after_message : List Held → Message → List Held
@@ -52,29 +53,45 @@ module _ (c : Catalog) (s : Settings) where
   abbrev pub told_since : Channel → List Input → List Message
   told_since ch [] = []
   told_since ch (i ∷ before) =
-      elim (nat_le ch.number (length before)) [ true ↦ told_since ch before ++ filter_map (said_to ch) (answers c s before i) | false ↦ [] ]
+      elim (nat_le ch.number (length before)) [
+        | true ↦ told_since ch before
+            ++ filter_map (said_to ch) (answers c s before i)
+        | false ↦ []
+      ]
 
   -- what is present on a topic
-  abbrev pub present_on : List Input → List ℕ → List Track
-  present_on journal topic = filter (λ t. bytes_eq t.topic topic) (present_at (story c s journal))
+  abbrev pub present_behind : List Input → List ℕ → List Track
+  present_behind journal topic = filter (λ t. bytes_eq t.topic topic) (present_at (story c s journal))
 
-  -- Each member with presence holds what is present on its topic. A state is in key order and the tracks in journal order, so it is equal up to order.
+  -- Each member with presence holds what is present on its topic. A state is in key order and the tracks in journal
+  -- order, so it is equal up to order.
   abbrev pub ClientsHold : List Input → Type 0
   ClientsHold journal =
       (ch : Channel) → Contains (members_at (story c s journal)) ch → ch.presence ≡ true
-      → IsPermutation (client_view [] (told_since ch journal)) (map shown_meta (present_on journal ch.topic))
+      → IsPermutation (client_view [] (told_since ch journal)) (map shown_meta (present_behind journal ch.topic))
 
-  -- A client takes metas away by `phx_ref`, the number of the track's input in decimal, and that tells numbers apart below 2 ^ 64: so the journal is
-  -- shorter.
+  -- A client takes metas away by `phx_ref`, the number of the track's input in decimal, and that tells numbers apart
+  -- below 2 ^ 64: so the journal is shorter.
   abbrev pub ClientsAgree : List Input → Type 0
   ClientsAgree journal = length journal < 2 ^ 64 → ClientsHold journal
 
-  -- So it is at each place of the journal that any steps make: there it is no longer than the limit on inputs, a number of 32 bits.
+  -- So it is at each place of the journal that any steps make: there it is no longer than the limit on inputs, a number
+  -- of 32 bits.
   abbrev pub TakenClientsAgree : Type 0
   TakenClientsAgree =
-      s.inputs < 2 ^ 32 → (steps : List Step) (later before : List Input) → (run c s steps start).journal ≡ later ++ before → ClientsHold before
+      s.inputs < 2 ^ 32 → (steps : List Step) (later before : List Input)
+      → (run c s steps start).journal ≡ later ++ before → ClientsHold before
 
--- The same of what a slot was given of its last opening: the items behind the last terminator.
+-- The same of what a slot was given of an opening, by the opening's number on the slot: the messages behind so many
+-- terminators, up to the next one.
+abbrev pub items_of : ℕ → List Item → List Item
+items_of number [] = []
+items_of zero (Said bytes ∷ more) = Said bytes ∷ items_of zero more
+items_of zero (End name ∷ more) = []
+items_of (suc number) (Said bytes ∷ more) = items_of (suc number) more
+items_of (suc number) (End name ∷ more) = items_of number more
+
+-- those of the last opening: the items behind the last terminator
 abbrev pub end_count : List Item → ℕ
 end_count items = count_by (λ x. not (is_message x)) items
 
@@ -99,32 +116,59 @@ module _ (c : Catalog) (s : Settings) where
   abbrev pub said_since : Channel → List Input → List Message
   said_since ch [] = []
   said_since ch (i ∷ before) =
-      elim (nat_le ch.number (length before)) [ true ↦ said_since ch before ++ filter_map said_by (told ch.slot (answers c s before i)) | false ↦ [] ]
+      elim (nat_le ch.number (length before)) [
+        | true ↦ said_since ch before
+            ++ filter_map said_by (told ch.slot (answers c s before i))
+        | false ↦ []
+      ]
 
-  -- The slot has a member with presence in an opening, and of that opening it was given exactly what is due by the inputs so far (so it isn't cut).
-  pub record IsUpTo (w : World) (before : List Input) (ch : Channel) (o : Opening) : Type 0 where
+  -- what a slot was given after steps; and of an opening, up to a place of it
+  abbrev pub given_after : List Step → ℕ → List Item
+  given_after steps slot = ((run c s steps start).slots slot).given
+
+  abbrev pub given_of : List Step → ℕ → (number place : ℕ) → List Item
+  given_of steps slot number place = items_of number (take place (given_after steps slot))
+
+  -- The slot has a member with presence in the opening that it has then, and these items are exactly what is due of
+  -- that opening by the inputs so far.
+  pub record IsUpTo (given : List Item) (before : List Input) (ch : Channel) (o : Opening) : Type 0 where
     pub member : Contains (members_at (story c s before)) ch
     pub enabled : ch.presence ≡ true
     pub opening : opening_at (story c s before) ch.slot ≡ Some o
-    pub items : last_items (w.slots ch.slot).given ≡ last_items (due c s before ch.slot)
+    pub items : given ≡ last_items (due c s before ch.slot)
 
-  -- Then what it was given of the opening ends with all that it was told since the join, each message in the opening's spelling; and by these a client
-  -- holds what is present on the channel's topic, whatever it held before.
-  pub record HoldsPresent (w : World) (before : List Input) (ch : Channel) (o : Opening) : Type 0 where
+  -- Then they end with all that the slot was told since the join, each message in the opening's spelling; and by these
+  -- a client holds what is present on the channel's topic, whatever it held before.
+  pub record HoldsPresent (given : List Item) (before : List Input) (ch : Channel) (o : Opening) : Type 0 where
     pub front : List Item
-    pub given : last_items (w.slots ch.slot).given ≡ front ++ as_items o.version (said_since ch before)
+    pub whole : given ≡ front ++ as_items o.version (said_since ch before)
     pub holds : (held : List Held)
-        → IsPermutation (client_view held (messages_to ch (said_since ch before))) (map shown_meta (present_on c s before ch.topic))
+        → IsPermutation (client_view held (messages_to ch (said_since ch before)))
+        (map shown_meta (present_behind c s before ch.topic))
 
+  -- After any steps and for a place of the journal that they make: where a slot was given, of its opening of some
+  -- number and up to some place of what it was given, exactly what is due of the opening that it has there. (So that
+  -- opening isn't cut before. What was given of it later is for later places.)
+  abbrev pub OpeningsAgree : Type 0
+  OpeningsAgree =
+      s.inputs < 2 ^ 32
+      → (steps : List Step) (later before : List Input) (ch : Channel) (o : Opening) (number place : ℕ)
+      → (run c s steps start).journal ≡ later ++ before
+      → IsUpTo (given_of steps ch.slot number place) before ch o
+      → HoldsPresent (given_of steps ch.slot number place) before ch o
+
+  -- So it is of the last opening and of all that was given of it.
   abbrev pub GivenClientsAgree : Type 0
   GivenClientsAgree =
       s.inputs < 2 ^ 32
       → (steps : List Step) (later before : List Input) (ch : Channel) (o : Opening)
-      → (run c s steps start).journal ≡ later ++ before → IsUpTo (run c s steps start) before ch o
-      → HoldsPresent (run c s steps start) before ch o
+      → (run c s steps start).journal ≡ later ++ before
+      → IsUpTo (last_items (given_after steps ch.slot)) before ch o
+      → HoldsPresent (last_items (given_after steps ch.slot)) before ch o
 
--- The same by the bytes that a client reads, with a reader of its own: what the server says may be longer and nest deeper than a frame that the server
--- reads. It reads each text of the grammar whose lists and objects nest in at most so many levels.
+-- The same by the bytes that a client reads, with a reader of its own: what the server says may be longer and nest
+-- deeper than a frame that the server reads. It reads each text of the grammar whose lists and objects nest in at most
+-- so many levels.
 pub record IsReader (levels : ℕ) (read : List ℕ → Option Json) : Type 0 where
   pub reads : (bytes : List ℕ) (tree : Json) → IsWithin levels tree bytes → read bytes ≡ Some tree
 
@@ -136,13 +180,25 @@ abbrev pub messages_on : (List ℕ → Option Json) → Version → Channel → 
 messages_on read version ch items = messages_to ch (filter_map (message_in read version) items)
 
 module _ (c : Catalog) (s : Settings) where
-  -- Any reader that goes as deep as the server's messages (a message is a level around its payload) finds in what the slot was given what is present,
-  -- where the catalogue's names are UTF-8 and the changes are those of lines: else a text might be told that can't be read.
+  -- Any reader that goes as deep as the server's messages (a message is a level around its payload) finds in what the
+  -- slot was given what is present, where the catalogue's names are UTF-8 and the changes are those of lines: else a
+  -- text might be told that can't be read.
+  abbrev pub OpeningReadersAgree : Type 0
+  OpeningReadersAgree =
+      HasReadableNames c → s.inputs < 2 ^ 32
+      → (steps : List Step) (later before : List Input) (ch : Channel) (o : Opening) (number place : ℕ) (read : List ℕ
+      → Option Json)
+      → (run c s steps start).journal ≡ later ++ before → AllByRecursion (IsOfLines c) before
+      → IsUpTo c s (given_of c s steps ch.slot number place) before ch o → IsReader (suc payload_levels) read
+      → IsPermutation (client_view [] (messages_on read o.version ch (given_of c s steps ch.slot number place)))
+      (map shown_meta (present_behind c s before ch.topic))
+
+  -- So it is of the last opening and of all that was given of it.
   abbrev pub ReadersAgree : Type 0
   ReadersAgree =
       HasReadableNames c → s.inputs < 2 ^ 32
       → (steps : List Step) (later before : List Input) (ch : Channel) (o : Opening) (read : List ℕ → Option Json)
-      → (run c s steps start).journal ≡ later ++ before → AllByRecursion (IsOfLines c) before → IsUpTo c s (run c s steps start) before ch o
-      → IsReader (suc payload_levels) read
-      → IsPermutation (client_view [] (messages_on read o.version ch (last_items ((run c s steps start).slots ch.slot).given)))
-      (map shown_meta (present_on c s before ch.topic))
+      → (run c s steps start).journal ≡ later ++ before → AllByRecursion (IsOfLines c) before
+      → IsUpTo c s (last_items (given_after c s steps ch.slot)) before ch o → IsReader (suc payload_levels) read
+      → IsPermutation (client_view [] (messages_on read o.version ch (last_items (given_after c s steps ch.slot))))
+      (map shown_meta (present_behind c s before ch.topic))

@@ -1,6 +1,8 @@
--- A journal, what each of its inputs did, and what is asked of all that stands before an input. Journals and stories have the newest first: what
--- stands before an input is the list behind it, and an input's number is the length of that list.
-use Rattle.std.specs.Prelude.{ℕ, ◌==◌, Bool, true, false, not, if◌then◌else◌, List, [], ◌∷◌, ◌++◌, map, reverse, length, Option, Some, None, option_map}
+-- A journal, what each of its inputs did, and what is asked of all that stands before an input. Journals and stories
+-- have the newest first: what stands before an input is the list behind it, and an input's number is the length of that
+-- list.
+use Rattle.std.specs.Prelude.{ℕ, ◌==◌, Bool, true, false, not, if◌then◌else◌, List, [], ◌∷◌, ◌++◌, map, reverse, length}
+use Rattle.std.specs.Prelude.{Option, Some, None, option_map}
 use Rattle.std.specs.List.{list_any, filter, filter_map, flat_map, range_with_len}
 use Rattle.rt_value.specs.declared.row.Row.{Row}
 use Rattle.rt_value.specs.Edits.{TableEdit, tables_after}
@@ -57,7 +59,8 @@ opened_after slot (p ∷ ps) old = opened_after slot ps (opened_by slot p old)
 -- what is open on a slot: the last opening that nothing has ended
 abbrev pub opening_at : Story → ℕ → Option Opening
 opening_at [] slot = None
-opening_at (l ∷ before) slot = opened_after slot l.parts (option_map (heard_in l.input (moment_at before) slot) (opening_at before slot))
+opening_at (l ∷ before) slot =
+    opened_after slot l.parts (option_map (heard_in l.input (moment_at before) slot) (opening_at before slot))
 
 abbrev pub joined_by : Part → Option Channel
 joined_by (Joins c) = Some c
@@ -120,11 +123,13 @@ is_last channel later = not (list_any (λ t. t.0 == channel) later)
 abbrev pub standing_tracks : List (ℕ × Option Track) → List Track
 standing_tracks [] = []
 standing_tracks ((n, None) ∷ later) = standing_tracks later
-standing_tracks ((n, Some t) ∷ later) = elim (is_last n later) [ true ↦ t ∷ standing_tracks later | false ↦ standing_tracks later ]
+standing_tracks ((n, Some t) ∷ later) =
+    elim (is_last n later) [ true ↦ t ∷ standing_tracks later | false ↦ standing_tracks later ]
 
 -- what is present: the standing tracks of the members, in journal order
 unfoldable pub present_at : Story → List Track
-present_at story = filter (λ t. list_any (λ c. c.number == t.channel) (members_at story)) (standing_tracks (all_tracks story))
+present_at story = filter (λ t. list_any (λ c. c.number == t.channel) (members_at story))
+    (standing_tracks (all_tracks story))
 
 abbrev pub edit_of_change : Change → TableEdit
 edit_of_change ch = (ch.table, ch.edit)
@@ -152,7 +157,8 @@ slot_count = 256
 unfoldable pub every_slot : List ℕ
 every_slot = range_with_len 0 slot_count
 
--- What an input finds: all that is asked of what stands before it. No state is carried: each field is a question to the whole story.
+-- What an input finds: all that is asked of what stands before it. No state is carried: each field is a question to the
+-- whole story.
 pub record Now : Type 0 where
   pub number : ℕ
   pub moment : ℕ

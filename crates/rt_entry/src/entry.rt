@@ -21,7 +21,8 @@ pub struct ChannelView {
 /// What the hub hands to a lane. A batch carries no messages: the lane's worker makes them.
 #[derive(Drop)]
 pub enum Entry {
-    /// A poll by its number in the journal: its changes, the tables at its end, the subscriptions before it by id, and the channels in join order.
+    /// A poll by its number in the journal: its changes, the tables at its end, the subscriptions
+    /// before it by id, and the channels in join order.
     Batch {
         /// The poll's number in the journal.
         number: u32,

@@ -1,9 +1,11 @@
-//! The inputs of the journal, what each does and gives, and the machine of steps that carries it to the slots.
+//! The inputs of the journal, what each does and gives, and the machine of steps that carries it to
+//! the slots; and laws of the journal.
 #![tactic(auto)]
 
 mod answer;
 mod entry;
 mod input;
+pub mod laws;
 mod story;
 
 pub use answer::{Answer, Item};

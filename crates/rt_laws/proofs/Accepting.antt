@@ -1,10 +1,13 @@
 -- A channel that a readable join makes can be spoken of, and each reason against a join or a renewal is UTF-8.
-use Rattle.std.proofs.Common.{◌≡◌, ℕ, suc, ◌+◌, ◌*◌, ◌<◌, ◌≤◌, Bool, true, false, not, List, [], ◌∷◌, ◌++◌, map, length, Option, Some, None, Ok, Err, refl, sym, ap, subst, arith}
+use Rattle.std.proofs.Common.{◌≡◌, ℕ, suc, ◌+◌, ◌*◌, ◌<◌, ◌≤◌, Bool, true, false, not, List, [], ◌∷◌, ◌++◌, map, length}
+use Rattle.std.proofs.Common.{Option, Some, None, Ok, Err, refl, sym, ap, subst, arith}
 use Rattle.std.specs.Prelude.{⊤, ◌^◌, IsUtf8, codes, nat_lt, slice_get, option_map, unwrap_or, Result}
 use Rattle.std.specs.Fmt.{decimal}
 use Rattle.std.specs.Str.{bytes_eq}
 use Rattle.std.proofs.lemmas.Bool.Decides.{nat_tests}
 use Rattle.std.proofs.lemmas.Str.{IsUtf8-append}
+use Rattle.std.specs.List.{filter}
+use Rattle.std.proofs.lemmas.Bool.{and_parts}
 use Rattle.rt_value.specs.declared.claims.Claims.{Claims}
 use Rattle.rt_value.specs.declared.row.Row.{Row}
 use Rattle.rt_value.specs.Choice.{◌>>=◌}
@@ -37,15 +40,19 @@ use Rattle.rt_private.specs.declared.right.Right.TheVariants.{Yes, NoPrivilege, 
 use Rattle.rt_private.specs.Rights as private
 use Rattle.rt_private.specs.Rights.{Use, messages_of, right, policy_name, denial_text, denial}
 use Rattle.rt_registry.specs.Bindings as registry
-use Rattle.rt_registry.specs.Bindings.{role_for, bindings_for, why_text, wanted_of, table_for, tests_for, filters_of, unless_text, or_err, meaning_of_binding, at_count, all_from, binding_limit, within_limit}
+use Rattle.rt_registry.specs.Bindings.{role_for, bindings_for, why_text, wanted_of, table_for, tests_for, filters_of}
+use Rattle.rt_registry.specs.Bindings.{unless_text, or_err, meaning_of_binding, at_count, all_from, binding_limit}
+use Rattle.rt_registry.specs.Bindings.{within_limit}
 use Rattle.rt_entry.specs.declared.input.Settings.{Settings}
 use Rattle.rt_entry.specs.declared.story.Opening.{Opening}
 use Rattle.rt_entry.specs.declared.story.Channel.{Channel}
 use Rattle.rt_entry.specs.declared.story.Member.{Member}
-use Rattle.rt_entry.specs.Joining.{Checked, ◌>>◌, or_why, demand, told_by, registry_text, channel_limit, binding_of, key_of, join_ref_of, asked_claims, unless, is_as_private, denied, standing_for, has_presence, channel_of_join, renewal_of}
+use Rattle.rt_entry.specs.Joining.{Checked, ◌>>◌, or_why, demand, told_by, registry_text, channel_limit, binding_of}
+use Rattle.rt_entry.specs.Joining.{key_of, join_ref_of, asked_claims, unless, is_as_private, denied, standing_for}
+use Rattle.rt_entry.specs.Joining.{has_presence, channel_of_join, renewal_of, made_channel}
 use Rattle.rt_entry.specs.Story.{Now}
 use Rattle.rt_entry.specs.Readable.{IsReadable}
-use Rattle.rt_laws.proofs.Texts.{word, decimal_utf8, behind, both}
+use Rattle.rt_laws.proofs.Texts.{word, decimal_utf8, behind}
 use Rattle.rt_laws.proofs.Incoming.{AskedFits, ConfigFits, config_fits}
 use Rattle.rt_laws.proofs.Shaping.{got}
 use Rattle.rt_laws.proofs.Outgoing.{Small, BindingFits, SubscribedFits, StandingFits, ChannelFits, TrackFits}
@@ -55,12 +62,14 @@ abbrev pub Told : {A : Type 0} → (A → Type 0) → Checked A → Type 0
 Told B (Ok x) = B x
 Told B (Err reason) = IsUtf8 reason
 
-told_bind : {A C : Type 0} (B : A → Type 0) (D : C → Type 0) (r : Checked A) (f : A → Checked C) → Told B r → ((x : A) → B x → Told D (f x))
+told_bind : {A C : Type 0} (B : A → Type 0) (D : C → Type 0) (r : Checked A) (f : A → Checked C) → Told B r
+    → ((x : A) → B x → Told D (f x))
     → Told D (r >> f)
 told_bind B D (Ok x) f h k = k x h
 told_bind B D (Err reason) f h k = h
 
-told_some : {A : Type 0} (B : A → Type 0) (reason : List ℕ) (o : Option A) → IsUtf8 reason → Maybe B o → Told B (or_why reason o)
+told_some : {A : Type 0} (B : A → Type 0) (reason : List ℕ) (o : Option A) → IsUtf8 reason → Maybe B o
+    → Told B (or_why reason o)
 told_some B reason None u h = u
 told_some B reason (Some x) u h = h
 
@@ -103,7 +112,8 @@ registry_utf8 (Limit n) h = word (codes "too many bindings") refl
 registry_utf8 (BadBinding n reason) h =
     IsUtf8-append (codes "binding " ++ decimal n ++ codes ": ") (why_text reason)
     (IsUtf8-append (codes "binding " ++ decimal n) (codes ": ")
-    (IsUtf8-append (codes "binding ") (decimal n) (word (codes "binding ") refl) (decimal_utf8 n h)) (word (codes ": ") refl))
+    (IsUtf8-append (codes "binding ") (decimal n) (word (codes "binding ") refl) (decimal_utf8 n h))
+    (word (codes ": ") refl))
     (why_utf8 reason)
 
 -- what a registry answers
@@ -111,12 +121,14 @@ abbrev Answered : {A : Type 0} → (A → Type 0) → Result A RegistryFault →
 Answered B (Ok x) = B x
 Answered B (Err e) = Spelled e
 
-answered_bind : {A C : Type 0} (B : A → Type 0) (D : C → Type 0) (r : Result A RegistryFault) (f : A → Result C RegistryFault) → Answered B r
+answered_bind : {A C : Type 0} (B : A → Type 0) (D : C → Type 0) (r : Result A RegistryFault) (f : A
+    → Result C RegistryFault) → Answered B r
     → ((x : A) → B x → Answered D (f x)) → Answered D (registry.◌>>◌ r f)
 answered_bind B D (Ok x) f h k = k x h
 answered_bind B D (Err e) f h k = h
 
-told_registry : {A : Type 0} (B : A → Type 0) (r : Result A RegistryFault) → Answered B r → Told B (told_by registry_text r)
+told_registry : {A : Type 0} (B : A → Type 0) (r : Result A RegistryFault) → Answered B r
+    → Told B (told_by registry_text r)
 told_registry B (Ok x) h = h
 told_registry B (Err e) h = registry_utf8 e h
 
@@ -137,7 +149,8 @@ abbrev Means : Binding → Result Subscribed BindingWhy → Type 0
 Means b (Ok s) = s.binding ≡ b
 Means b (Err reason) = ⊤
 
-means_bind : {A : Type 0} (b : Binding) (r : Result A BindingWhy) (f : A → Result Subscribed BindingWhy) → ((x : A) → Means b (f x))
+means_bind : {A : Type 0} (b : Binding) (r : Result A BindingWhy) (f : A → Result Subscribed BindingWhy)
+    → ((x : A) → Means b (f x))
     → Means b (registry.◌>>◌ r f)
 means_bind b (Ok x) f k = k x
 means_bind b (Err reason) f k = tt
@@ -149,7 +162,8 @@ meaning c role b =
     means_bind b (tests_for c role table (filters_of b))
     (λ tests. Ok (record { binding = b; wanted = wanted; table = table; tests = tests })) (λ tests. refl)))
 
-counted : (n : ℕ) (b : Binding) (r : Result Subscribed BindingWhy) → Small n → Means b r → Answered (λ (s : Subscribed). s.binding ≡ b) (at_count n r)
+counted : (n : ℕ) (b : Binding) (r : Result Subscribed BindingWhy) → Small n → Means b r
+    → Answered (λ (s : Subscribed). s.binding ≡ b) (at_count n r)
 counted n b (Ok s) small h = h
 counted n b (Err reason) small h = small
 
@@ -161,31 +175,38 @@ all_answered : (c : Catalog) (role n : ℕ) (bs : List Binding) → Small (n + l
     → Answered (BindingsFit (length bs)) (all_from c role n bs)
 all_answered c role n [] small a = (tt, refl)
 all_answered c role n (b ∷ more) small a =
-    answered_bind (λ (s : Subscribed). s.binding ≡ b) (BindingsFit (length (b ∷ more))) (at_count n (meaning_of_binding c role b)) _
+    answered_bind (λ (s : Subscribed). s.binding ≡ b) (BindingsFit (length (b ∷ more)))
+    (at_count n (meaning_of_binding c role b)) _
     (counted n b (meaning_of_binding c role b) (omega arith) (meaning c role b)) (λ s e.
-    answered_bind (BindingsFit (length more)) (BindingsFit (length (b ∷ more))) (all_from c role (n + 1) more) (λ ss. Ok (s ∷ ss))
+    answered_bind (BindingsFit (length more)) (BindingsFit (length (b ∷ more))) (all_from c role (n + 1) more)
+    (λ ss. Ok (s ∷ ss))
     (all_answered c role (n + 1) more (omega arith) a.1)
     (λ ss h. ((subst BindingFits (sym e) a.0, h.0), ap suc h.1)))
 
 limited : (bs : List Binding) → Answered (λ (x : Bool). length bs ≤ 100) (within_limit bs)
 limited bs = by (nat_lt binding_limit (length bs)) refl
   where
-    by : (b : Bool) → nat_lt binding_limit (length bs) ≡ b → Answered (λ (x : Bool). length bs ≤ 100) (registry.demand (not b) (Limit (length bs)))
+    by : (b : Bool) → nat_lt binding_limit (length bs) ≡ b
+        → Answered (λ (x : Bool). length bs ≤ 100) (registry.demand (not b) (Limit (length bs)))
     by true e = tt
     by false e = grind (arith, nat_tests)
 
 abbrev FewFit : List Subscribed → Type 0
 FewFit ss = AllOf SubscribedFits ss × (length ss ≤ 100)
 
-bindings_answered : (c : Catalog) (claims : Claims) (bs : List Binding) → AllOf BindingFits bs → Answered FewFit (bindings_for c claims bs)
+bindings_answered : (c : Catalog) (claims : Claims) (bs : List Binding) → AllOf BindingFits bs
+    → Answered FewFit (bindings_for c claims bs)
 unfolding bindings_for
 bindings_answered c claims bs a =
-    answered_bind (λ (n : ℕ). ⊤) FewFit (role_for c claims) (λ role. registry.◌>>◌ (within_limit bs) (λ _. all_from c role 1 bs))
+    answered_bind (λ (n : ℕ). ⊤) FewFit (role_for c claims)
+    (λ role. registry.◌>>◌ (within_limit bs) (λ _. all_from c role 1 bs))
     (role_answered c claims) (λ role _.
-    answered_bind (λ (x : Bool). length bs ≤ 100) FewFit (within_limit bs) (λ _. all_from c role 1 bs) (limited bs) (λ _ few.
+    answered_bind (λ (x : Bool). length bs ≤ 100) FewFit (within_limit bs) (λ _. all_from c role 1 bs) (limited bs)
+    (λ _ few.
     few_of (all_from c role 1 bs) few (all_answered c role 1 bs (omega arith) a)))
   where
-    few_of : (r : Result (List Subscribed) RegistryFault) → length bs ≤ 100 → Answered (BindingsFit (length bs)) r → Answered FewFit r
+    few_of : (r : Result (List Subscribed) RegistryFault) → length bs ≤ 100 → Answered (BindingsFit (length bs)) r
+        → Answered FewFit r
     few_of (Ok ss) few h = let n = h.1 in (h.0, omega arith)
     few_of (Err e) few h = h
 
@@ -197,12 +218,14 @@ text_utf8 c names m NoPrivilege = word (codes "private: no privilege") refl
 text_utf8 c names m NoPolicy = word (codes "private: no policy") refl
 text_utf8 c names m NonePermits = word (codes "private: none permits") refl
 text_utf8 c names m (Restrictive n) =
-    IsUtf8-append (codes "private: restrictive ") (policy_name c m n) (word (codes "private: restrictive ") refl) (named (rules_at c m.table) rules)
+    IsUtf8-append (codes "private: restrictive ") (policy_name c m n) (word (codes "private: restrictive ") refl)
+    (named (rules_at c m.table) rules)
   where
     rules : Maybe AreReadableRules (rules_at c m.table)
     rules = got AreReadableRules c.rules.tables m.table names.policies
 
-    policy : (o : Option Policy) → Maybe IsReadablePolicy o → IsUtf8 (unwrap_or (option_map (λ (p : Policy). p.name) o) [])
+    policy : (o : Option Policy) → Maybe IsReadablePolicy o
+        → IsUtf8 (unwrap_or (option_map (λ (p : Policy). p.name) o) [])
     policy None h = word [] refl
     policy (Some p) h = h
 
@@ -211,7 +234,8 @@ text_utf8 c names m (Restrictive n) =
     named None h = word [] refl
     named (Some t) h = policy (slice_get t.policies n) (got IsReadablePolicy t.policies n h)
 
-denial_utf8 : (c : Catalog) → HasReadableNames c → (rows : ℕ → List Row) (role : ℕ) (claims : Claims) (name : List ℕ) (use_ : Use)
+denial_utf8 : (c : Catalog) → HasReadableNames c
+    → (rows : ℕ → List Row) (role : ℕ) (claims : Claims) (name : List ℕ) (use_ : Use)
     → Maybe IsUtf8 (denial c rows role claims name use_)
 unfolding denial
 denial_utf8 c names rows role claims name use_ = by (messages_of c)
@@ -255,7 +279,8 @@ module _ (c : Catalog) (s : Settings) (names : HasReadableNames c) (now : Now) (
       [ true ↦ decimal_utf8 now.number (omega arith) | false ↦ u ]
 
   ref_is : (m : Message) → IsReadable 63 m → IsRef (join_ref_of m)
-  ref_is m is = elim (is_null m.join_ref) as (λ b. IsRef (elim b as (λ t. Json) [ true ↦ m.reference | false ↦ m.join_ref ]))
+  ref_is m is = elim (is_null m.join_ref) as
+      (λ b. IsRef (elim b as (λ t. Json) [ true ↦ m.reference | false ↦ m.join_ref ]))
       [ true ↦ is.reference | false ↦ is.join_ref ]
 
   asked_all : (as_ : List Asked) → AllOf AskedFits as_ → AllOf BindingFits (map binding_of as_)
@@ -268,35 +293,28 @@ module _ (c : Catalog) (s : Settings) (names : HasReadableNames c) (now : Now) (
   unfolding channel_of_join
   join_told tables slot o others m is topic =
       let any : Claims → Type 0 = λ x. ⊤ in
-      let name = behind topic_prefix m.topic refl (both _ _ topic).0 is.topic in
+      let name = behind topic_prefix m.topic refl (and_parts _ _ topic).0 is.topic in
       let number = fits.number in
       let ids = fits.ids in
       told_bind ConfigFits ChannelFits (or_why (codes "bad config") (config_of m.payload)) _
-      (told_some ConfigFits (codes "bad config") (config_of m.payload) (word (codes "bad config") refl) (config_fits 57 m.payload is.payload))
+      (told_some ConfigFits (codes "bad config") (config_of m.payload) (word (codes "bad config") refl)
+      (config_fits 57 m.payload is.payload))
       (λ config hc.
       told_bind (λ (x : Bool). ⊤) ChannelFits (demand (is_as_private c config.private) (codes "private channel")) _
-      (told_true (is_as_private c config.private) (codes "private channel") (word (codes "private channel") refl)) (λ _ _.
+      (told_true (is_as_private c config.private) (codes "private channel") (word (codes "private channel") refl))
+      (λ _ _.
       told_bind any ChannelFits (asked_claims s now o (member_of m.payload (codes "access_token"))) _
       (claims_told o (member_of m.payload (codes "access_token"))) (λ claims _.
       told_bind StandingFits ChannelFits (standing_for c tables (name_in m.topic) claims) _
       (standing_told c names tables (name_in m.topic) claims) (λ standing hs.
       told_bind (λ (x : Bool). ⊤) ChannelFits (demand (nat_lt others channel_limit) (codes "too many channels")) _
-      (told_true (nat_lt others channel_limit) (codes "too many channels") (word (codes "too many channels") refl)) (λ _ _.
-      told_bind FewFit ChannelFits (told_by registry_text (bindings_for c claims (map binding_of config.bindings))) (λ bindings. Ok (record {
-        number = now.number;
-        slot = slot;
-        topic = m.topic;
-        join_ref = join_ref_of m;
-        standing = standing;
-        bindings = bindings;
-        first_id = now.ids + 1;
-        ack = config.ack;
-        own = config.own;
-        presence = has_presence c tables config (name_in m.topic) standing;
-        key = key_of now.number config.key;
-      }))
+      (told_true (nat_lt others channel_limit) (codes "too many channels") (word (codes "too many channels") refl))
+      (λ _ _.
+      told_bind FewFit ChannelFits (told_by registry_text (bindings_for c claims (map binding_of config.bindings)))
+      (λ bindings. Ok (made_channel c tables now slot m config standing bindings))
       (told_registry FewFit (bindings_for c claims (map binding_of config.bindings))
-      (bindings_answered c claims (map binding_of config.bindings) (asked_all config.bindings hc.bindings))) (λ bindings hb.
+      (bindings_answered c claims (map binding_of config.bindings) (asked_all config.bindings hc.bindings)))
+      (λ bindings hb.
       let few = hb.1 in
       record {
         join_ref = ref_is m is;
@@ -314,7 +332,8 @@ module _ (c : Catalog) (s : Settings) (names : HasReadableNames c) (now : Now) (
   unfolding renewal_of
   renewal_told tables o ch token h =
       let same : List Binding = map (λ (b : Subscribed). b.binding) ch.bindings in
-      told_bind (λ (x : Claims). ⊤) StandingFits (asked_claims s now o (Some token)) _ (claims_told o (Some token)) (λ claims _.
+      told_bind (λ (x : Claims). ⊤) StandingFits (asked_claims s now o (Some token)) _ (claims_told o (Some token))
+      (λ claims _.
       told_bind StandingFits StandingFits (standing_for c tables (name_in ch.topic) claims) _
       (standing_told c names tables (name_in ch.topic) claims) (λ standing hs.
       told_bind FewFit StandingFits (told_by registry_text (bindings_for c claims same)) (λ _. Ok standing)

@@ -1,5 +1,6 @@
 -- What the data of a change shows.
-use Rattle.std.proofs.Common.{◌≡◌, ℕ, suc, ◌+◌, Bool, true, false, ◌||◌, not, cond, List, [], ◌∷◌, ◌++◌, map, Option, Some, None, refl, sym, ap, subst, ◌∙◌, arith, inl, inr}
+use Rattle.std.proofs.Common.{◌≡◌, ℕ, suc, ◌+◌, Bool, true, false, ◌||◌, not, cond, List, [], ◌∷◌, ◌++◌, map, Option}
+use Rattle.std.proofs.Common.{Some, None, refl, sym, ap, subst, ◌∙◌, arith, inl, inr}
 use Rattle.std.specs.Prelude.{⊤, codes, All, slice_get, option_map, unwrap_or}
 use Rattle.std.specs.List.{filter_map, enumerate_from}
 use Rattle.std.proofs.lemmas.List.Elements.{All-nil, All-cons}
@@ -19,23 +20,23 @@ use Rattle.rt_change.specs.declared.change.Verb.{Verb}
 use Rattle.rt_change.specs.declared.change.Verb.TheVariants.{Insert, Update, Delete, Truncate}
 use Rattle.rt_change.specs.declared.change.Change.{Change}
 use Rattle.rt_change.specs.Verdicts.{writes, lacks_key, hides_key}
-use Rattle.rt_change.specs.Shape.{error_list, is_large, shown_columns, is_kept, field_of, record_of, is_key_column, old_columns, head, column_tree, records, refused, whole, shape_of}
+use Rattle.rt_change.specs.Shape.{error_list, is_large, shown_columns, is_kept, field_of, record_of, is_key_column}
+use Rattle.rt_change.specs.Shape.{old_columns, head, column_tree, records, refused, whole, shape_of}
 use Rattle.rt_entry.specs.declared.input.Settings.{Settings}
 use Rattle.rt_entry.specs.Access.{IsShownColumn, ShowsOnly, IsRecordName}
+use Rattle.rt_filter.proofs.Options.{some_if_gives}
 
 -- a numbered element stands at its number
-numbered_at : {A : Type 0} (k : ℕ) (xs : List A) (n : ℕ × A) → Among (enumerate_from k xs) n → (i : ℕ) × (n.0 ≡ k + i) × (slice_get xs i ≡ Some n.1)
+numbered_at : {A : Type 0} (k : ℕ) (xs : List A) (n : ℕ × A) → Among (enumerate_from k xs) n
+    → (i : ℕ) × (n.0 ≡ k + i) × (slice_get xs i ≡ Some n.1)
 numbered_at k [] n h = absurd h
-numbered_at k (x ∷ xs) n (inl e) = (0, ap (λ (p : _). p.0) (sym e) ∙ (let z : k ≡ k + 0 = omega arith in z), ap (λ (p : _). Some p.1) e)
+numbered_at k (x ∷ xs) n (inl e) =
+    (0, ap (λ (p : _). p.0) (sym e) ∙ (let z : k ≡ k + 0 = omega arith in z), ap (λ (p : _). Some p.1) e)
 numbered_at k (x ∷ xs) n (inr h) = let r = numbered_at (k + 1) xs n h in let e = r.1 in (suc r.0, omega arith, r.2)
 
 pub all_from : {A : Type 0} (B : A → Type 0) (xs : List A) → AllOf B xs → All B xs
 all_from B [] a = All-nil B
 all_from B (x ∷ xs) a = All-cons B x xs a.0 (all_from B xs a.1)
-
-some_if_true : {A : Type 0} (b : Bool) (x y : A) → some_if b x ≡ Some y → (b ≡ true) × (x ≡ y)
-some_if_true {A} true x y e = (refl, ap (λ (o : Option A). unwrap_or o x) e)
-some_if_true false x y e = absurd (cc)
 
 module _ (c : Catalog) (s : Settings) (role max : ℕ) (ch : Change) where
   abbrev IsShown : ℕ × Column → Type 0
@@ -44,8 +45,9 @@ module _ (c : Catalog) (s : Settings) (role max : ℕ) (ch : Change) where
   shown_is : (n : ℕ × Column) → Among (shown_columns c role max ch) n → IsShown n
   shown_is n h =
       let r =
-      among_filter_map (λ (m : ℕ × Column). some_if (may_select c role ch.table m.0) m) (enumerate_from 0 (table_at c ch.table).columns) n h in
-      let t = some_if_true (may_select c role ch.table r.0.0) r.0 n r.2 in
+      among_filter_map (λ (m : ℕ × Column). some_if (may_select c role ch.table m.0) m)
+      (enumerate_from 0 (table_at c ch.table).columns) n h in
+      let t = some_if_gives (may_select c role ch.table r.0.0) r.0 n r.2 in
       let at = numbered_at 0 (table_at c ch.table).columns r.0 r.1 in
       let i : at.0 ≡ r.0.0 = let e = at.1 in omega arith in
       let here : IsShown r.0 = (ap (slice_get (table_at c ch.table).columns) (sym i) ∙ at.2, t.0) in
@@ -54,30 +56,43 @@ module _ (c : Catalog) (s : Settings) (role max : ℕ) (ch : Change) where
   old_is : (n : ℕ × Column) → Among (old_columns c role max ch) n → IsShown n
   old_is n h =
       let r =
-      among_filter_map (λ (m : ℕ × Column). some_if (writes ch.verb || not (is_secured c ch.table) || is_key_column c role max ch m.0) m)
+      among_filter_map (λ (m : ℕ × Column).
+      some_if (writes ch.verb || not (is_secured c ch.table) || is_key_column c role max ch m.0) m)
       (shown_columns c role max ch) n h in
-      let t = some_if_true (writes ch.verb || not (is_secured c ch.table) || is_key_column c role max ch r.0.0) r.0 n r.2 in
+      let t = some_if_gives (writes ch.verb || not (is_secured c ch.table) || is_key_column c role max ch r.0.0) r.0 n
+      r.2 in
       subst IsShown t.1 (shown_is r.0 r.1)
 
-  field_name : (n : ℕ × Column) (o : Option Json) (m : Member) → (o >>= λ tree. some_if (is_kept c role max ch tree) (field n.1.name tree)) ≡ Some m
+  field_name : (n : ℕ × Column) (o : Option Json) (m : Member)
+      → (o >>= λ tree. some_if (is_kept c role max ch tree) (field n.1.name tree)) ≡ Some m
       → n.1.name ≡ m.name
   field_name n None m e = absurd (cc)
-  field_name n (Some tree) m e = ap (λ (x : Member). x.name) (some_if_true (is_kept c role max ch tree) (field n.1.name tree) m e).1
+  field_name n (Some tree) m e =
+      ap (λ (x : Member). x.name) (some_if_gives (is_kept c role max ch tree) (field n.1.name tree) m e).1
 
-  shown_field : (columns : List (ℕ × Column)) (trees : List (Option Json)) → ((n : ℕ × Column) → Among columns n → IsShown n) → (m : Member)
+  shown_field : (columns : List (ℕ × Column)) (trees : List (Option Json))
+      → ((n : ℕ × Column) → Among columns n → IsShown n) → (m : Member)
       → Among (filter_map (field_of c role max ch trees) columns) m → IsShownColumn c s role ch.table m.name
   shown_field columns trees f m h =
       let r = among_filter_map (field_of c role max ch trees) columns m h in
       let k = f r.0 r.1 in
-      record { number = r.0.0; column = r.0.1; there = k.0; named = field_name r.0 (unwrap_or (slice_get trees r.0.0) None) m r.2; may = k.1 }
+      record {
+        number = r.0.0;
+        column = r.0.1;
+        there = k.0;
+        named = field_name r.0 (unwrap_or (slice_get trees r.0.0) None) m r.2;
+        may = k.1;
+      }
 
-  record_shows : (columns : List (ℕ × Column)) (trees : List (Option Json)) → ((n : ℕ × Column) → Among columns n → IsShown n)
+  record_shows : (columns : List (ℕ × Column)) (trees : List (Option Json))
+      → ((n : ℕ × Column) → Among columns n → IsShown n)
       → ShowsOnly c s role ch.table (record_of c role max ch columns trees)
   record_shows columns trees f =
       let fields = filter_map (field_of c role max ch trees) columns in
       let P : List Member → Type 0 = All (λ (m : Member). IsShownColumn c s role ch.table m.name) in
       subst P (sym (object_members fields)) (all_from (λ (m : Member). IsShownColumn c s role ch.table m.name) fields
-      (all_weaker (Among fields) (λ (m : Member). IsShownColumn c s role ch.table m.name) fields (shown_field columns trees f)
+      (all_weaker (Among fields) (λ (m : Member). IsShownColumn c s role ch.table m.name) fields
+      (shown_field columns trees f)
       (all_themselves fields)))
 
   -- a refusal has no record
@@ -95,14 +110,17 @@ module _ (c : Catalog) (s : Settings) (role max : ℕ) (ch : Change) where
 
   abbrev around : Json → Json → Json → List Member → List Member
   around moment columns errors ms =
-      head c role max ch ++ field (codes "commit_timestamp") moment ∷ field (codes "columns") columns ∷ ms ++ field (codes "errors") errors ∷ []
+      head c role max ch ++ field (codes "commit_timestamp") moment ∷ field (codes "columns") columns ∷ ms
+      ++ field (codes "errors") errors ∷ []
 
   shown_records : (v : Verb) (moment columns errors : Json)
       → Shows (last_named (codes "record") (around moment columns errors (records c role max ch v))) × Shows
       (last_named (codes "old_record") (around moment columns errors (records c role max ch v)))
   shown_records Insert moment columns errors = (record_shows (shown_columns c role max ch) ch.new_trees shown_is, tt)
-  shown_records Update moment columns errors =
-      (record_shows (shown_columns c role max ch) ch.new_trees shown_is, record_shows (old_columns c role max ch) ch.old_trees old_is)
+  shown_records Update moment columns errors = (
+    record_shows (shown_columns c role max ch) ch.new_trees shown_is,
+    record_shows (old_columns c role max ch) ch.old_trees old_is,
+  )
   shown_records Delete moment columns errors = (tt, record_shows (old_columns c role max ch) ch.old_trees old_is)
   shown_records Truncate moment columns errors = (tt, tt)
 
@@ -114,22 +132,28 @@ module _ (c : Catalog) (s : Settings) (role max : ℕ) (ch : Change) where
       let ms = around moment columns errors (records c role max ch ch.verb) in
       let both = shown_records ch.verb moment columns errors in
       let P : List ℕ → Type 0 = λ n. Shows (last_named n ms) in
-      let found : Shows (last_named part ms) = elim name [ inl e ↦ subst P (sym e) both.0 | inr e ↦ subst P (sym e) both.1 ] in
+      let found : Shows (last_named part ms) =
+      elim name [ inl e ↦ subst P (sym e) both.0 | inr e ↦ subst P (sym e) both.1 ] in
       subst Shows (sym (object_at ms part)) found
 
   no_some : (o : Option Json) (tree : Json) → o ≡ None → o ≡ Some tree → ⊥
   no_some o tree e f = let k : None ≡ Some tree = sym e ∙ f in cc
 
-  -- where it shows a record, the change has its key and the role may SELECT it, and it shows only columns that the role may SELECT
-  shape_case : (a b : Bool) → lacks_key ch ≡ a → hides_key c role ch ≡ b → (part : List ℕ) (tree : Json) → IsRecordName c s part
+  -- where it shows a record, the change has its key and the role may SELECT it, and it shows only columns that the role
+  -- may SELECT
+  shape_case : (a b : Bool) → lacks_key ch ≡ a → hides_key c role ch ≡ b → (part : List ℕ) (tree : Json)
+      → IsRecordName c s part
       → member_of (cond a (refused c role max ch (codes "Error 400: Bad Request, no primary key"))
       (cond b (refused c role max ch (codes "Error 401: Unauthorized")) (whole c role max ch))) part ≡ Some tree
       → (lacks_key ch ≡ false) × (hides_key c role ch ≡ false) × ShowsOnly c s role ch.table tree
-  shape_case true b e f part tree name h = absurd (no_some _ tree (refused_none (codes "Error 400: Bad Request, no primary key") part name) h)
-  shape_case false true e f part tree name h = absurd (no_some _ tree (refused_none (codes "Error 401: Unauthorized") part name) h)
+  shape_case true b e f part tree name h =
+      absurd (no_some _ tree (refused_none (codes "Error 400: Bad Request, no primary key") part name) h)
+  shape_case false true e f part tree name h =
+      absurd (no_some _ tree (refused_none (codes "Error 401: Unauthorized") part name) h)
   shape_case false false e f part tree name h = (e, f, subst Shows h (whole_shows part name))
 
-  pub shape_shows : (part : List ℕ) (tree : Json) → IsRecordName c s part → member_of (shape_of c role max ch) part ≡ Some tree
+  pub shape_shows : (part : List ℕ) (tree : Json) → IsRecordName c s part
+      → member_of (shape_of c role max ch) part ≡ Some tree
       → (lacks_key ch ≡ false) × (hides_key c role ch ≡ false) × ShowsOnly c s role ch.table tree
   unfolding shape_of
   shape_shows part tree name h = shape_case (lacks_key ch) (hides_key c role ch) refl refl part tree name h

@@ -1,5 +1,6 @@
 -- What is read of a text fits: its texts are UTF-8, its numbers of the grammar, and it nests as deep as its levels.
-use Rattle.std.proofs.Common.{◌≡◌, ℕ, zero, suc, ◌+◌, ◌<◌, Bool, true, false, List, [], ◌∷◌, cond, inr, Option, Some, None, sym, subst, arith}
+use Rattle.std.proofs.Common.{◌≡◌, ℕ, zero, suc, ◌+◌, ◌<◌, Bool, true, false, List, [], ◌∷◌, cond, inr, Option, Some}
+use Rattle.std.proofs.Common.{None, sym, subst, arith}
 use Rattle.std.specs.Prelude.{⊤, IsUtf8, encode_utf8, ◌==◌, ◌||◌}
 use Rattle.std.specs.List.{AllByRecursion}
 use Rattle.std.proofs.lemmas.Bool.{cond_both}
@@ -12,7 +13,9 @@ use Rattle.rt_json.specs.Grammar.{IsValue, MoreItems, IsMember, MoreMembers, IsW
 use Rattle.rt_json.specs.Fits.{FitsFlat, FitsOver, FitsWithin}
 use Rattle.rt_json.specs.declared.tree.Json.{Json, Null, Bool as Truth, Num, Text, out-Json, roll-Json, roll-out-Json}
 use Rattle.rt_json.specs.declared.tree.Json.TheOpen.{Json-F}
-use Rattle.rt_json.specs.declared.tree.Json.TheVariants.{outs-Null, outs-Bool, outs-Text, outs-Num, outs-List, outs-Object, rolls-Null, rolls-Bool, rolls-Num, rolls-Text, rolls-List, rolls-Object}
+use Rattle.rt_json.specs.declared.tree.Json.TheVariants.{outs-Null, outs-Bool, outs-Text, outs-Num, outs-List}
+use Rattle.rt_json.specs.declared.tree.Json.TheVariants.{outs-Object, rolls-Null, rolls-Bool, rolls-Num, rolls-Text}
+use Rattle.rt_json.specs.declared.tree.Json.TheVariants.{rolls-List, rolls-Object}
 use Rattle.rt_json.specs.declared.tree.Json.TheVariants as j
 use Rattle.rt_json.specs.declared.tree.named.Member.{Member}
 use Rattle.rt_json.specs.Lookup.{last_named, or_else, members_of, member_of}
@@ -53,9 +56,12 @@ pair_utf8 high low hi lo =
 
 rest_utf8 : {before all xs ys : List ℕ} → IsRest before all xs ys → IsUtf8 before → IsUtf8 all
 rest_utf8 t.quote h = h
-rest_utf8 (t.plain {c = c} {before = before} is more) h = rest_utf8 more (IsUtf8-append before (encode_utf8 c) h (IsUtf8-encode c is.0))
-rest_utf8 (t.short {x = x} {c = c} {before = before} is more) h = rest_utf8 more (IsUtf8-append before (c ∷ []) h (one_byte c (small x c is)))
-rest_utf8 (t.unit {u = u} {before = before} is ok more) h = rest_utf8 more (IsUtf8-append before (encode_utf8 u) h (IsUtf8-encode u ok))
+rest_utf8 (t.plain {c = c} {before = before} is more) h =
+    rest_utf8 more (IsUtf8-append before (encode_utf8 c) h (IsUtf8-encode c is.0))
+rest_utf8 (t.short {x = x} {c = c} {before = before} is more) h =
+    rest_utf8 more (IsUtf8-append before (c ∷ []) h (one_byte c (small x c is)))
+rest_utf8 (t.unit {u = u} {before = before} is ok more) h =
+    rest_utf8 more (IsUtf8-append before (encode_utf8 u) h (IsUtf8-encode u ok))
 rest_utf8 (t.pair {high = high} {low = low} {before = before} one hi two lo more) h =
     rest_utf8 more (IsUtf8-append before (encode_utf8 (pair_code high low)) h (pair_utf8 high low hi lo))
 
@@ -85,10 +91,12 @@ number_fits (suc n) digits h = subst (FitsOver (FitsWithin n)) (sym (outs-Num di
 abbrev pub MemberFits : ℕ → Member → Type 0
 MemberFits levels m = IsUtf8 m.name × FitsWithin levels m.value
 
-pub list_fits : (levels : ℕ) (items : List Json) → AllByRecursion (FitsWithin levels) items → FitsWithin (suc levels) (j.List items)
+pub list_fits : (levels : ℕ) (items : List Json) → AllByRecursion (FitsWithin levels) items
+    → FitsWithin (suc levels) (j.List items)
 list_fits levels items h = subst (FitsOver (FitsWithin levels)) (sym (outs-List items)) h
 
-pub object_fits : (levels : ℕ) (members : List Member) → AllByRecursion (MemberFits levels) members → FitsWithin (suc levels) (j.Object members)
+pub object_fits : (levels : ℕ) (members : List Member) → AllByRecursion (MemberFits levels) members
+    → FitsWithin (suc levels) (j.Object members)
 object_fits levels members h = subst (FitsOver (FitsWithin levels)) (sym (outs-Object members)) h
 
 mutual
@@ -103,7 +111,8 @@ mutual
   value_fits (g.no_members {n = n} bl) = object_fits n [] tt
   value_fits (g.members {n = n} {m = m} {all = all} is more) = object_fits n all (members_fit more (member_fits is, tt))
 
-  items_fit : {n : ℕ} {before all : List Json} {xs ys : List ℕ} → MoreItems n before all xs ys → AllByRecursion (FitsWithin n) before
+  items_fit : {n : ℕ} {before all : List Json} {xs ys : List ℕ} → MoreItems n before all xs ys
+      → AllByRecursion (FitsWithin n) before
       → AllByRecursion (FitsWithin n) all
   items_fit (g.close_list bl) h = h
   items_fit (g.next_item {n = n} {v = v} {before = before} a b is more) h = items_fit more
@@ -112,7 +121,8 @@ mutual
   member_fits : {n : ℕ} {m : Member} {xs ys : List ℕ} → IsMember n m xs ys → MemberFits n m
   member_fits (g.named ba name bl bm is) = (text_utf8 name, value_fits is)
 
-  members_fit : {n : ℕ} {before all : List Member} {xs ys : List ℕ} → MoreMembers n before all xs ys → AllByRecursion (MemberFits n) before
+  members_fit : {n : ℕ} {before all : List Member} {xs ys : List ℕ} → MoreMembers n before all xs ys
+      → AllByRecursion (MemberFits n) before
       → AllByRecursion (MemberFits n) all
   members_fit (g.close_object bl) h = h
   members_fit (g.next_member {n = n} {m = m} {before = before} a is more) h = members_fit more
@@ -132,14 +142,16 @@ flat_more F (Json-F.Text text) h = h
 flat_more F (Json-F.List items) h = absurd h
 flat_more F (Json-F.Object members) h = absurd h
 
-over_more : (F G : Json → Type 0) → ((x : Json) → F x → G x) → (layer : Json-F Json Member) → FitsOver F layer → FitsOver G layer
+over_more : (F G : Json → Type 0) → ((x : Json) → F x → G x) → (layer : Json-F Json Member) → FitsOver F layer
+    → FitsOver G layer
 over_more F G f Json-F.Null h = h
 over_more F G f (Json-F.Bool b) h = h
 over_more F G f (Json-F.Num text) h = h
 over_more F G f (Json-F.Text text) h = h
 over_more F G f (Json-F.List items) h = all_weaker F G items f h
 over_more F G f (Json-F.Object members) h =
-    all_weaker (λ (m : Member). IsUtf8 m.name × F m.value) (λ (m : Member). IsUtf8 m.name × G m.value) members (λ m k. (k.0, f m.value k.1)) h
+    all_weaker (λ (m : Member). IsUtf8 m.name × F m.value) (λ (m : Member). IsUtf8 m.name × G m.value) members
+    (λ m k. (k.0, f m.value k.1)) h
 
 fits_next : (levels : ℕ) (tree : Json) → FitsWithin levels tree → FitsWithin (suc levels) tree
 fits_next zero tree h = flat_more (FitsWithin zero) (out-Json tree) h
@@ -154,14 +166,16 @@ fits_up (suc more) levels tree h =
 -- what stands in a tree that fits
 
 -- by the outermost level of a tree
-pub by_level : (F : Json-F Json Member → Type 0) (P : Json → Type 0) (tree : Json) → ((level : Json-F Json Member) → F level → P (roll-Json level))
+pub by_level : (F : Json-F Json Member → Type 0) (P : Json → Type 0) (tree : Json)
+    → ((level : Json-F Json Member) → F level → P (roll-Json level))
     → F (out-Json tree) → P tree
 by_level F P tree f h = subst P (roll-out-Json tree) (f (out-Json tree) h)
 
 abbrev MembersFit : ℕ → Json → Type 0
 MembersFit levels tree = AllByRecursion (MemberFits levels) (members_of tree)
 
-pub members_fits : (levels : ℕ) (tree : Json) → FitsWithin (suc levels) tree → AllByRecursion (MemberFits levels) (members_of tree)
+pub members_fits : (levels : ℕ) (tree : Json) → FitsWithin (suc levels) tree
+    → AllByRecursion (MemberFits levels) (members_of tree)
 members_fits levels tree h = by_level (FitsOver (FitsWithin levels)) (MembersFit levels) tree by h
   where
     by : (level : Json-F Json Member) → FitsOver (FitsWithin levels) level → MembersFit levels (roll-Json level)
@@ -178,14 +192,17 @@ pub last_fits : (levels : ℕ) (name : List ℕ) (members : List Member) → All
 last_fits levels name [] h = tt
 last_fits levels name (m ∷ ms) h = by (last_named name ms) (bytes_eq m.name name) (last_fits levels name ms h.1)
   where
-    by : (o : Option Json) (b : Bool) → Maybe (FitsWithin levels) o → Maybe (FitsWithin levels) (or_else o (cond b (Some m.value) None))
+    by : (o : Option Json) (b : Bool) → Maybe (FitsWithin levels) o
+        → Maybe (FitsWithin levels) (or_else o (cond b (Some m.value) None))
     by (Some x) b k = k
     by None true k = h.0.1
     by None false k = tt
 
-pub member_fits_in : (levels : ℕ) (tree : Json) (name : List ℕ) → FitsWithin (suc levels) tree → Maybe (FitsWithin levels) (member_of tree name)
+pub member_fits_in : (levels : ℕ) (tree : Json) (name : List ℕ) → FitsWithin (suc levels) tree
+    → Maybe (FitsWithin levels) (member_of tree name)
 member_fits_in levels tree name h = last_fits levels name (members_of tree) (members_fits levels tree h)
 
 -- a text that stands there is UTF-8
-pub text_in_utf8 : (levels : ℕ) (tree : Json) (text : List ℕ) → FitsWithin (suc levels) tree → out-Json tree ≡ Json-F.Text text → IsUtf8 text
+pub text_in_utf8 : (levels : ℕ) (tree : Json) (text : List ℕ) → FitsWithin (suc levels) tree
+    → out-Json tree ≡ Json-F.Text text → IsUtf8 text
 text_in_utf8 levels tree text h e = subst (FitsOver (FitsWithin levels)) e h

@@ -1,5 +1,6 @@
 -- What clients hold after an input that is no frame and no stop.
-use Rattle.std.proofs.Common.{◌≡◌, ℕ, ◌<◌, Bool, true, false, ◌&&◌, not, List, [], ◌∷◌, ◌++◌, map, Option, Some, None, refl, sym, ap, subst, ◌∙◌, append-nil}
+use Rattle.std.proofs.Common.{◌≡◌, ℕ, ◌<◌, Bool, true, false, ◌&&◌, not, List, [], ◌∷◌, ◌++◌, map, Option, Some, None}
+use Rattle.std.proofs.Common.{refl, sym, ap, subst, ◌∙◌, append-nil}
 use Rattle.std.specs.Prelude.{⊤, ◌^◌, codes, if◌then◌else◌}
 use Rattle.std.specs.List.{filter, flat_map, enumerate_from}
 use Rattle.std.specs.Str.{bytes_eq}
@@ -29,25 +30,30 @@ use Rattle.rt_entry.specs.declared.story.Part.{Part}
 use Rattle.rt_entry.specs.declared.story.Part.TheVariants.{Opens, Ends}
 use Rattle.rt_entry.specs.declared.entry.ChannelView.{ChannelView}
 use Rattle.rt_entry.specs.Story.{Now, has, departed_in, is_last, standing_tracks}
-use Rattle.rt_entry.specs.Doings.{in_turn, channels_of, opening_in, end_of, end_if_open, fail, open_parts, is_idle, has_run_out, tick_parts, subscriptions, view_of, opening_of, gets, change_parts, change_parts_to, change_parts_to_all, poll_parts, doings, posting_parts, post_parts, may_post, is_on, broadcast_part}
+use Rattle.rt_entry.specs.Doings.{in_turn, channels_of, opening_in, end_of, end_if_open, fail, open_parts, is_idle}
+use Rattle.rt_entry.specs.Doings.{has_run_out, tick_parts, subscriptions, view_of, opening_of, gets, change_parts}
+use Rattle.rt_entry.specs.Doings.{change_parts_to, change_parts_to_all, poll_parts, doings, posting_parts, post_parts}
+use Rattle.rt_entry.specs.Doings.{may_post, is_on, broadcast_part}
 use Rattle.rt_entry.specs.Messages.{shown_meta}
 use Rattle.rt_entry.specs.Presence.{client_view}
-use Rattle.rt_laws.specs.After.{tracks_after}
+use Rattle.rt_entry.specs.After.{tracks_after}
 use Rattle.rt_laws.specs.Follows.{IsOutside}
-use Rattle.rt_laws.proofs.Shapes.{AreApart}
-use Rattle.rt_laws.proofs.Unique.{RisingMembers}
-use Rattle.rt_laws.proofs.Tracked.{Apart}
+use Rattle.rt_entry.proofs.Shapes.{AreApart}
+use Rattle.rt_entry.proofs.Unique.{RisingMembers}
+use Rattle.rt_entry.proofs.Tracked.{Apart}
 use Rattle.rt_laws.proofs.Hears.{hears}
 use Rattle.rt_laws.proofs.Turns.{IsMute, Turns, turns_then, turns_mute, turns_each, turns_fail, turns_end, shown_still}
 
-module _ (now : Now) (h : Member) (in_members : Among now.members h) (rises : RisingMembers now.members) (apart : AreApart now.members)
+module _ (now : Now) (h : Member) (in_members : Among now.members h) (rises : RisingMembers now.members)
+    (apart : AreApart now.members)
     (enabled : h.channel.presence ≡ true)
     (chans : Apart (λ (t : Track). t.channel) now.tracks) (refs : Apart (λ (t : Track). t.reference) now.tracks)
     (small : AllOf (λ (t : Track). t.reference < 2 ^ 64) now.tracks) where
   abbrev pub Turn : List Part → List ℕ → Type 0
   Turn ps gone = Turns now h in_members rises apart enabled chans refs small ps gone
 
-  pub then_turn : (ps qs : List Part) (gone : List ℕ) → Turn ps gone → Turn qs (departed_in ps ++ gone) → Turn (ps ++ qs) gone
+  pub then_turn : (ps qs : List Part) (gone : List ℕ) → Turn ps gone → Turn qs (departed_in ps ++ gone)
+      → Turn (ps ++ qs) gone
   then_turn ps qs gone a b = turns_then now h in_members rises apart enabled chans refs small ps qs gone a b
 
   pub mute_turn : (ps : List Part) (gone : List ℕ) → AllOf IsMute ps → Turn ps gone
@@ -83,23 +89,28 @@ module _ (now : Now) (h : Member) (in_members : Among now.members h) (rises : Ri
       ]) gone) [
         | true ↦ end_turn gone slot end_name.Idle
         | false ↦ turns_each now h in_members rises apart enabled chans refs small (fail now reason) (λ g. ⊤)
-            (λ x g t. turns_fail now h in_members rises apart enabled chans refs small reason x g) gone ended (all_every (λ g. ⊤) ended (λ g. tt))
+            (λ x g t. turns_fail now h in_members rises apart enabled chans refs small reason x g) gone ended
+            (all_every (λ g. ⊤) ended (λ g. tt))
       ]
 
   module _ (c : Catalog) (s : Settings) where
-    mute_change : (to : ChannelView) (ch : Change) (subs : List Subscription) → AllOf IsMute (change_parts c s to ch subs)
+    mute_change : (to : ChannelView) (ch : Change) (subs : List Subscription)
+        → AllOf IsMute (change_parts c s to ch subs)
     mute_change to ch [] = tt
     mute_change to ch (sub ∷ more) = ((refl, refl), tt)
 
     mute_changes : (subs : List Subscription) (tables : List (List Row)) (views : List ChannelView) (ch : Change)
         → AllOf IsMute (change_parts_to_all c s subs tables views ch)
     mute_changes subs tables views ch =
-        elim (is_truncate ch.verb) as (λ t. AllOf IsMute (elim t [ true ↦ [] | false ↦ flat_map (change_parts_to c s subs tables ch) views ])) [
+        elim (is_truncate ch.verb) as (λ t.
+        AllOf IsMute (elim t [ true ↦ [] | false ↦ flat_map (change_parts_to c s subs tables ch) views ])) [
           | true ↦ tt
-          | false ↦ all_flat IsMute (change_parts_to c s subs tables ch) views (λ to. mute_change to ch (filter (gets c s tables ch to.channel) subs))
+          | false ↦ all_flat IsMute (change_parts_to c s subs tables ch) views
+              (λ to. mute_change to ch (filter (gets c s tables ch to.channel) subs))
         ]
 
-    mute_post : (tables : List (List Row)) (claims : Claims) (ps : List Posting) → AllOf IsMute (post_parts c s now tables claims ps)
+    mute_post : (tables : List (List Row)) (claims : Claims) (ps : List Posting)
+        → AllOf IsMute (post_parts c s now tables claims ps)
     mute_post tables claims ps =
         let may = filter (may_post c s now tables claims) ps in
         elim (is_expired (seconds_of now.moment) claims.exp) as
@@ -113,14 +124,16 @@ module _ (now : Now) (h : Member) (in_members : Among now.members h) (rises : Ri
     unfolding doings poll_parts
     outside_turn tables (Opened slot version claims) k = open_turn slot (opening_of now version claims)
     outside_turn tables (Gone slot) k = end_if_turn slot end_name.Gone (opening_in now slot)
-    outside_turn tables (Post slot claims ps) k = mute_turn (post_parts c s now tables claims ps) [] (mute_post tables claims ps)
+    outside_turn tables (Post slot claims ps) k =
+        mute_turn (post_parts c s now tables claims ps) [] (mute_post tables claims ps)
     outside_turn tables (Poll changes) k =
         let subs = subscriptions now.members in
         let views = map view_of now.members in
         mute_turn (flat_map (change_parts_to_all c s subs tables views) changes) []
         (all_flat IsMute (change_parts_to_all c s subs tables views) changes (mute_changes subs tables views))
     outside_turn tables (Tick m) k =
-        turns_each now h in_members rises apart enabled chans refs small (tick_parts now m) (λ x. ⊤) (λ g x t. tick_turn m g x) []
+        turns_each now h in_members rises apart enabled chans refs small (tick_parts now m) (λ x. ⊤)
+        (λ g x t. tick_turn m g x) []
         (enumerate_from 0 now.opens) (all_every (λ x. ⊤) (enumerate_from 0 now.opens) (λ x. tt))
     outside_turn tables (Frame slot bytes) k = absurd k
     outside_turn tables Stop k = absurd k
@@ -130,7 +143,8 @@ module _ (now : Now) (h : Member) (in_members : Among now.members h) (rises : Ri
 
   -- the tracks behind parts that track nothing
   abbrev pub after_with : List ℕ → List (ℕ × Option Track) → List Track
-  after_with ds xs = filter (λ (t : Track). is_last t.channel xs && not (has t.channel ds)) now.tracks ++ standing_tracks xs
+  after_with ds xs = filter (λ (t : Track). is_last t.channel xs && not (has t.channel ds)) now.tracks
+      ++ standing_tracks xs
 
   pub turn_holds : (ps : List Part) (held : List Held) → Turn ps [] → has h.channel.number (departed_in ps) ≡ false
       → Moves held (map shown_meta (filter on now.tracks))
@@ -143,9 +157,11 @@ module _ (now : Now) (h : Member) (in_members : Among now.members h) (rises : Ri
       let none_gone : filter (λ (u : Track). not (has u.channel [])) now.tracks ≡ now.tracks =
       filter_all (λ (u : Track). not (has u.channel [])) now.tracks
       (all_every (λ (u : Track). not (has u.channel []) ≡ true) now.tracks (λ u. refl)) in
-      let first : shown_still now h in_members rises apart enabled chans refs small [] ≡ map shown_meta (filter on now.tracks) =
+      let first : shown_still now h in_members rises apart enabled chans refs small []
+      ≡ map shown_meta (filter on now.tracks) =
       ap (λ (ts : List Track). map shown_meta (filter on ts)) none_gone in
-      let last : map shown_meta (filter on (filter (λ (u : Track). not (has u.channel (ds ++ []))) now.tracks)) ≡ map shown_meta
+      let last : map shown_meta (filter on (filter (λ (u : Track). not (has u.channel (ds ++ []))) now.tracks))
+      ≡ map shown_meta
       (filter on (tracks_after now.tracks ps)) =
       ap (λ (ts : List Track). map shown_meta (filter on ts))
       (ap (λ (xs : List ℕ). filter (λ (u : Track). not (has u.channel xs)) now.tracks) (append-nil ds)

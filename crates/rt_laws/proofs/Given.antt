@@ -1,5 +1,6 @@
 -- What a slot was given, one push after another.
-use Rattle.std.proofs.Common.{◌≡◌, ◌⊎◌, ℕ, zero, suc, ◌+◌, ◌<◌, ◌≤◌, Bool, true, false, List, [], ◌∷◌, ◌++◌, length, take, drop, Some, None, refl, sym, ap, subst, ◌∙◌, arith, append-nil, inl, inr, ltb, eqb}
+use Rattle.std.proofs.Common.{◌≡◌, ◌⊎◌, ℕ, zero, suc, ◌+◌, ◌<◌, ◌≤◌, Bool, true, false, List, [], ◌∷◌, ◌++◌, length}
+use Rattle.std.proofs.Common.{take, drop, Some, None, refl, sym, ap, subst, ◌∙◌, arith, append-nil, inl, inr, ltb, eqb}
 use Rattle.std.specs.Prelude.{⊤, ◌≢◌}
 use Rattle.std.specs.List.{filter, flat_map}
 use Rattle.std.proofs.lemmas.List.Concat.{flat_map-append}
@@ -8,7 +9,8 @@ use Rattle.std.proofs.lemmas.Bool.Decides.{nat_tests, eqb_tells}
 use Rattle.rt_phx.specs.declared.end.EndName.TheVariants.{OutboxFull}
 use Rattle.rt_entry.specs.declared.answer.Item.{Item}
 use Rattle.rt_entry.specs.declared.answer.Item.TheVariants.{End}
-use Rattle.rt_entry.specs.Machine.{Cut, Placed, opening_after, placed_from, placed, cut_of, is_cut, shown_by, shown_at, shown, is_uncut}
+use Rattle.rt_entry.specs.Machine.{Cut, Placed, opening_after, placed_from, placed, cut_of, is_cut, shown_by, shown_at}
+use Rattle.rt_entry.specs.Machine.{shown, is_uncut}
 use Rattle.rt_laws.proofs.Lists.{take_add, drop_add, take_step, drop_within}
 
 abbrev pub Numbered : ℕ → List Placed → Type 0
@@ -31,7 +33,8 @@ numbered_take n (suc k) (p ∷ ps) h = (h.0, numbered_take (n + 1) k ps h.1)
 pub numbered_drop : (n k : ℕ) (ps : List Placed) → Numbered n ps → Numbered (n + k) (drop k ps)
 numbered_drop n zero ps h = let e : n ≡ n + 0 = omega arith in let P : ℕ → Type 0 = λ m. Numbered m ps in subst P e h
 numbered_drop n (suc k) [] h = tt
-numbered_drop n (suc k) (p ∷ ps) h = let e : (n + 1) + k ≡ n + suc k = omega arith in let P : ℕ → Type 0 = λ m. Numbered m (drop k ps) in
+numbered_drop n (suc k) (p ∷ ps) h = let e : (n + 1) + k ≡ n + suc k = omega arith in let P : ℕ
+    → Type 0 = λ m. Numbered m (drop k ps) in
     subst P e (numbered_drop (n + 1) k ps h.1)
 
 pub before_more : (n m : ℕ) (ks : List Cut) → n ≤ m → AllBefore n ks → AllBefore m ks
@@ -84,7 +87,8 @@ shows_none k p h =
     shows k p false false a b
 
 shows_item : (k : Cut) (p : Placed) → p.place < k.place → shown_by (Some k) p ≡ p.item ∷ []
-shows_item k p h = let a : ltb p.place k.place ≡ true = grind (arith, nat_tests) in shows k p true (eqb p.place k.place) a refl
+shows_item k p h = let a : ltb p.place k.place ≡ true = grind (arith, nat_tests) in
+    shows k p true (eqb p.place k.place) a refl
 
 shows_end : (k : Cut) (p : Placed) → p.place ≡ k.place → shown_by (Some k) p ≡ End OutboxFull ∷ []
 shows_end k p h =
@@ -116,7 +120,8 @@ pub record Front (n : ℕ) (ks : List Cut) (ps : List Placed) (p : Placed) : Typ
   pub here : drop count ps ≡ p ∷ rest
   pub none : cut_of ks p.opening ≡ None
 
-front_here : (n : ℕ) (ks : List Cut) (x : Placed) (xs : List Placed) (p : Placed) → x.place ≡ n → cut_of ks x.opening ≡ None → x ≡ p
+front_here : (n : ℕ) (ks : List Cut) (x : Placed) (xs : List Placed) (p : Placed) → x.place ≡ n
+    → cut_of ks x.opening ≡ None → x ≡ p
     → Front n ks (x ∷ xs) p
 front_here n ks x xs p h c e = record {
   count = 0;
@@ -128,7 +133,8 @@ front_here n ks x xs p h c e = record {
   none = ap (λ (q : Placed). cut_of ks q.opening) (sym e) ∙ c;
 }
 
-front_later : (n : ℕ) (ks : List Cut) (x : Placed) (xs : List Placed) (p : Placed) → shown_at ks x ≡ [] → Front (n + 1) ks xs p
+front_later : (n : ℕ) (ks : List Cut) (x : Placed) (xs : List Placed) (p : Placed) → shown_at ks x ≡ []
+    → Front (n + 1) ks xs p
     → Front n ks (x ∷ xs) p
 front_later n ks x xs p s f = record {
   count = suc f.count;
@@ -139,7 +145,8 @@ front_later n ks x xs p s f = record {
   none = f.none;
 }
 
-pub front_of : (n : ℕ) (ks : List Cut) (ps : List Placed) (p : Placed) (more : List Placed) → AllBefore n ks → Numbered n ps
+pub front_of : (n : ℕ) (ks : List Cut) (ps : List Placed) (p : Placed) (more : List Placed) → AllBefore n ks
+    → Numbered n ps
     → filter (is_uncut ks) ps ≡ p ∷ more → Front n ks ps p
 front_of n ks [] p more b h e = absurd (cc)
 front_of n ks (x ∷ xs) p more b h e =
@@ -150,23 +157,30 @@ front_of n ks (x ∷ xs) p more b h e =
     ]
 
 push_other : (j : Cut) (ks : List Cut) (k : Cut) (p : Placed) → shown_at (ks ++ k ∷ []) p ≡ shown_at ks p
-    → ((eqb j.opening p.opening ≡ true) × (j.opening ≡ p.opening)) ⊎ ((eqb j.opening p.opening ≡ false) × (j.opening ≢ p.opening))
+    → ((eqb j.opening p.opening ≡ true) × (j.opening ≡ p.opening))
+    ⊎ ((eqb j.opening p.opening ≡ false) × (j.opening ≢ p.opening))
     → shown_at ((j ∷ ks) ++ k ∷ []) p ≡ shown_at (j ∷ ks) p
 push_other j ks k p h (inl t) = let e = t.0 in rw e refl
 push_other j ks k p h (inr t) = let e = t.0 in rw e h
 
-cut_of_push : (n : ℕ) (ks : List Cut) (k : Cut) (p : Placed) → AllBefore n ks → p.place < k.place → shown_at (ks ++ k ∷ []) p ≡ shown_at ks p
-cut_of_push n [] k p b h = elim (eqb_tells k.opening p.opening) [ inl t ↦ let e = t.0 in rw e (shows_item k p h) | inr t ↦ let e = t.0 in rw e refl ]
+cut_of_push : (n : ℕ) (ks : List Cut) (k : Cut) (p : Placed) → AllBefore n ks → p.place < k.place
+    → shown_at (ks ++ k ∷ []) p ≡ shown_at ks p
+cut_of_push n [] k p b h = elim (eqb_tells k.opening p.opening) [
+  | inl t ↦ let e = t.0 in rw e (shows_item k p h)
+  | inr t ↦ let e = t.0 in rw e refl
+]
 cut_of_push n (j ∷ ks) k p b h = push_other j ks k p (cut_of_push n ks k p b.1 h) (eqb_tells j.opening p.opening)
 
-cuts_push : (n m : ℕ) (ks : List Cut) (k : Cut) (ps : List Placed) → AllBefore m ks → Numbered n ps → n + length ps ≤ k.place
+cuts_push : (n m : ℕ) (ks : List Cut) (k : Cut) (ps : List Placed) → AllBefore m ks → Numbered n ps
+    → n + length ps ≤ k.place
     → flat_map (shown_at (ks ++ k ∷ [])) ps ≡ flat_map (shown_at ks) ps
 cuts_push n m ks k [] b h le = refl
 cuts_push n m ks k (p ∷ ps) b h le =
     ap (λ xs. xs ++ flat_map (shown_at (ks ++ k ∷ [])) ps) (cut_of_push m ks k p b (omega (arith, h.0)))
     ∙ ap (λ xs. shown_at ks p ++ xs) (cuts_push (n + 1) m ks k ps b h.1 (omega arith))
 
-new_cut : (ks : List Cut) (k : Cut) (p : Placed) → cut_of ks p.opening ≡ None → k.opening ≡ p.opening → p.place ≡ k.place
+new_cut : (ks : List Cut) (k : Cut) (p : Placed) → cut_of ks p.opening ≡ None → k.opening ≡ p.opening
+    → p.place ≡ k.place
     → shown_at (ks ++ k ∷ []) p ≡ End OutboxFull ∷ []
 new_cut [] k p c o e = let t : eqb k.opening p.opening ≡ true = grind (arith, nat_tests) in rw t (shows_end k p e)
 new_cut (j ∷ ks) k p c o e =
@@ -194,7 +208,8 @@ before_front items given past cuts p g f =
     ∙ append-nil (flat_map (shown_at cuts) (take past all))
     ∙ sym g.is
 
-pub front_at : (items : List Item) (past : ℕ) (cuts : List Cut) (p : Placed) (f : Front past cuts (drop past (placed items)) p)
+pub front_at : (items : List Item) (past : ℕ) (cuts : List Cut) (p : Placed)
+    (f : Front past cuts (drop past (placed items)) p)
     → drop p.place (placed items) ≡ p ∷ f.rest
 front_at items past cuts p f = ap (λ n. drop n (placed items)) f.at ∙ drop_add past f.count (placed items) ∙ f.here
 
@@ -215,7 +230,8 @@ give items given past cuts p g f =
       before = before_more past (p.place + 1) cuts (omega arith) g.before;
     }
 
-pub cut_short : (items given : List Item) (past : ℕ) (cuts : List Cut) (p : Placed) (k : Cut) → k.opening ≡ p.opening → p.place ≡ k.place
+pub cut_short : (items given : List Item) (past : ℕ) (cuts : List Cut) (p : Placed) (k : Cut) → k.opening ≡ p.opening
+    → p.place ≡ k.place
     → IsGiven items given past cuts → Front past cuts (drop past (placed items)) p →
     IsGiven items (given ++ End OutboxFull ∷ []) (p.place + 1) (cuts ++ k ∷ [])
 cut_short items given past cuts p k o e g f =
@@ -232,16 +248,19 @@ cut_short items given past cuts p k o e g f =
           ∙ before_front items given past cuts p g f)
           ∙ ap (λ xs. given ++ (xs ++ [])) (new_cut cuts k p f.none o e));
       within = omega arith;
-      before = before_push (p.place + 1) cuts k (before_more past (p.place + 1) cuts (omega arith) g.before) (omega arith);
+      before = before_push (p.place + 1) cuts k (before_more past (p.place + 1) cuts (omega arith) g.before)
+          (omega arith);
     }
 
 -- more items come behind
-placed_more : (n o : ℕ) (xs ys : List Item) → (rest : List Placed) × (placed_from n o (xs ++ ys) ≡ placed_from n o xs ++ rest)
+placed_more : (n o : ℕ) (xs ys : List Item)
+    → (rest : List Placed) × (placed_from n o (xs ++ ys) ≡ placed_from n o xs ++ rest)
 placed_more n o [] ys = (placed_from n o ys, refl)
 placed_more n o (x ∷ xs) ys = let found = placed_more (n + 1) (opening_after x o) xs ys in
     (found.0, ap (λ ps. record { place = n; opening = o; item = x } ∷ ps) found.1)
 
-pub more_items : (items more given : List Item) (past : ℕ) (cuts : List Cut) → IsGiven items given past cuts → IsGiven (items ++ more) given past cuts
+pub more_items : (items more given : List Item) (past : ℕ) (cuts : List Cut) → IsGiven items given past cuts
+    → IsGiven (items ++ more) given past cuts
 more_items items more given past cuts g =
     let found = placed_more 0 0 items more in
     let all = placed items in
@@ -271,10 +290,12 @@ given_all items given past cuts g nothing =
     let all = placed items in
     let rest : Numbered past (drop past all) =
     let e : 0 + past ≡ past =
-    omega arith in let P : ℕ → Type 0 = λ n. Numbered n (drop past all) in subst P e (numbered_drop 0 past all (numbered 0 0 items)) in
+    omega arith in let P : ℕ → Type 0 = λ n. Numbered n (drop past all) in
+    subst P e (numbered_drop 0 past all (numbered 0 0 items)) in
     g.is
     ∙ sym (append-nil (flat_map (shown_at cuts) (take past all)))
-    ∙ ap (λ xs. flat_map (shown_at cuts) (take past all) ++ xs) (sym (quiet past cuts (drop past all) g.before rest nothing))
+    ∙ ap (λ xs. flat_map (shown_at cuts) (take past all) ++ xs)
+    (sym (quiet past cuts (drop past all) g.before rest nothing))
     ∙ sym (flat_map-append (shown_at cuts) (take past all) (drop past all))
     ∙ ap (flat_map (shown_at cuts)) (take-append-drop past all)
 

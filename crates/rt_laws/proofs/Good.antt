@@ -1,5 +1,6 @@
 -- Every step keeps what holds of each lane and each slot.
-use Rattle.std.proofs.Common.{◌≡◌, ℕ, ◌+◌, ◌≤◌, false, List, [], ◌∷◌, ◌++◌, length, take, drop, refl, sym, ap, subst, ◌∙◌, arith, length-append, inl, inr}
+use Rattle.std.proofs.Common.{◌≡◌, ℕ, ◌+◌, ◌≤◌, false, List, [], ◌∷◌, ◌++◌, length, take, drop, refl, sym, ap, subst}
+use Rattle.std.proofs.Common.{◌∙◌, arith, length-append, inl, inr}
 use Rattle.std.specs.Prelude.{◌==◌, ◌≢◌}
 use Rattle.std.proofs.lemmas.Bool.Decides.{eqb_tells}
 use Rattle.std.proofs.lemmas.List.{take-append-le, take-append-drop}
@@ -10,14 +11,18 @@ use Rattle.rt_entry.specs.declared.input.Settings.{Settings}
 use Rattle.rt_entry.specs.declared.input.Step.{Step}
 use Rattle.rt_entry.specs.declared.answer.Item.{Item}
 use Rattle.rt_entry.specs.Answers.{Mark, marks_of, lane_marks, answers_of_marks, items_for, due, told}
-use Rattle.rt_entry.specs.Machine.{Cut, Slot, Lane, World, start, Placed, placed, shown, with_at, with_slot, with_lane, with_given, with_cut, lane_of, worked_items, pending, put_inlet, put_feed, put_clock, step_of, run, IsAtRest}
+use Rattle.rt_entry.specs.Machine.{Cut, Slot, Lane, World, start, Placed, placed, shown, with_at, with_slot, with_lane}
+use Rattle.rt_entry.specs.Machine.{with_given, with_cut, lane_of, worked_items, pending, put_inlet, put_feed, put_clock}
+use Rattle.rt_entry.specs.Machine.{step_of, run, IsAtRest}
 use Rattle.rt_entry.specs.Headline.{IsPrefixOf, IsServed}
 use Rattle.rt_laws.proofs.Lists.{take_add}
-use Rattle.rt_laws.proofs.Given.{IsGiven, Front, front_of, numbered, numbered_drop, Numbered, give, cut_short, more_items, given_prefix, given_all}
+use Rattle.rt_laws.proofs.Given.{IsGiven, Front, front_of, numbered, numbered_drop, Numbered, give, cut_short}
+use Rattle.rt_laws.proofs.Given.{more_items, given_prefix, given_all}
 use Rattle.rt_laws.proofs.Stepping.{one_sent, one_worked, one_popped, Keeps, step_keeps, run_keeps}
-use Rattle.rt_laws.proofs.Marks.{lane_due, lane_more, lane_none, no_marks, items_more}
+use Rattle.rt_entry.proofs.Marks.{lane_due, lane_more, lane_none, no_marks, items_more}
 
-pub with_all : {A : Type 0} (P : ℕ → A → Type 0) (f : ℕ → A) (n : ℕ) (x : A) → P n x → ((m : ℕ) → P m (f m)) → (m : ℕ) → P m (with_at f n x m)
+pub with_all : {A : Type 0} (P : ℕ → A → Type 0) (f : ℕ → A) (n : ℕ) (x : A) → P n x → ((m : ℕ) → P m (f m)) → (m : ℕ)
+    → P m (with_at f n x m)
 with_all P f n x h all m = elim (eqb_tells m n) [
   | inl t ↦ let e = t.0 in rw (e, with_at) (let Q : ℕ → Type 0 = λ k. P k x in subst Q (sym t.1) h)
   | inr t ↦ let e = t.0 in rw (e, with_at) (all m)
@@ -30,14 +35,17 @@ module _ (c : Catalog) (s : Settings) where
   pub record IsGood (w : World) : Type 0 where
     pub worked : (l : ℕ) → (w.lanes l).worked ≤ (w.lanes l).sent
     pub sent : (l : ℕ) → (w.lanes l).sent ≤ length (lane_marks c s w.journal l)
-    pub slots : (slot : ℕ) → IsGiven (worked_items c s w slot) (w.slots slot).given (w.slots slot).past (w.slots slot).cuts
+    pub slots : (slot : ℕ) → IsGiven (worked_items c s w slot) (w.slots slot).given (w.slots slot).past
+        (w.slots slot).cuts
 
   -- what the slot was given, where its lane is so far
   abbrev Same : ℕ → World → ℕ → Lane → Type 0
-  Same slot w m y = IsGiven (items_for slot (answers_of_marks c s (take y.worked (lane_marks c s w.journal m)))) (w.slots slot).given
+  Same slot w m y = IsGiven (items_for slot (answers_of_marks c s (take y.worked (lane_marks c s w.journal m))))
+      (w.slots slot).given
       (w.slots slot).past (w.slots slot).cuts
 
-  slot_good : (w : World) (slot : ℕ) (x : Slot) → IsGood w → IsGiven (worked_items c s w slot) x.given x.past x.cuts → IsGood (with_slot w slot x)
+  slot_good : (w : World) (slot : ℕ) (x : Slot) → IsGood w → IsGiven (worked_items c s w slot) x.given x.past x.cuts
+      → IsGood (with_slot w slot x)
   slot_good w slot x g h = record {
     worked = g.worked;
     sent = g.sent;
@@ -60,10 +68,12 @@ module _ (c : Catalog) (s : Settings) where
     slots = λ slot.
         let l = lane_of c s slot in
         let within : (w.lanes l).worked ≤ length (lane_marks c s w.journal l) = omega (arith, g.worked l, g.sent l) in
-        let same : take (w.lanes l).worked (lane_marks c s (i ∷ w.journal) l) ≡ take (w.lanes l).worked (lane_marks c s w.journal l) =
+        let same : take (w.lanes l).worked (lane_marks c s (i ∷ w.journal) l)
+        ≡ take (w.lanes l).worked (lane_marks c s w.journal l) =
         ap (take (w.lanes l).worked) (lane_more c s w.journal i l)
         ∙ take-append-le (w.lanes l).worked (lane_marks c s w.journal l) (marks_of c s l w.journal i) within in
-        let P : List Mark → Type 0 = λ ms. IsGiven (items_for slot (answers_of_marks c s ms)) (w.slots slot).given (w.slots slot).past
+        let P : List Mark → Type 0 = λ ms. IsGiven (items_for slot (answers_of_marks c s ms)) (w.slots slot).given
+        (w.slots slot).past
         (w.slots slot).cuts in
         subst P (sym same) (g.slots slot);
   }
@@ -84,7 +94,8 @@ module _ (c : Catalog) (s : Settings) where
         worked = with_all (λ m y. y.worked ≤ y.sent) w.lanes l x (omega arith) g.worked;
         sent = with_all (λ m y. y.sent ≤ length (lane_marks c s w.journal m)) w.lanes l x less g.sent;
         slots =
-            λ slot. with_all (λ m y. Same slot w m (w.lanes m) → Same slot w m y) w.lanes l x (λ h. h) (λ m h. h) (lane_of c s slot) (g.slots slot);
+            λ slot. with_all (λ m y. Same slot w m (w.lanes m) → Same slot w m y) w.lanes l x (λ h. h) (λ m h. h)
+            (lane_of c s slot) (g.slots slot);
       }
 
   more_worked : (w : World) (slot l : ℕ) → Same slot w l (w.lanes l) → Same slot w l (one_worked (w.lanes l))
@@ -92,10 +103,13 @@ module _ (c : Catalog) (s : Settings) where
       let marks = lane_marks c s w.journal l in
       let n = (w.lanes l).worked in
       let found = items_more c s slot (take n marks) (take 1 (drop n marks)) in
-      let is : items_for slot (answers_of_marks c s (take (n + 1) marks)) ≡ items_for slot (answers_of_marks c s (take n marks)) ++ found.0 =
+      let is : items_for slot (answers_of_marks c s (take (n + 1) marks))
+      ≡ items_for slot (answers_of_marks c s (take n marks)) ++ found.0 =
       ap (λ ms. items_for slot (answers_of_marks c s ms)) (take_add n 1 marks) ∙ found.1 in
-      let P : List Item → Type 0 = λ items. IsGiven items (w.slots slot).given (w.slots slot).past (w.slots slot).cuts in
-      subst P (sym is) (more_items (items_for slot (answers_of_marks c s (take n marks))) found.0 (w.slots slot).given (w.slots slot).past
+      let P : List Item → Type 0 = λ items. IsGiven items (w.slots slot).given (w.slots slot).past
+      (w.slots slot).cuts in
+      subst P (sym is) (more_items (items_for slot (answers_of_marks c s (take n marks))) found.0 (w.slots slot).given
+      (w.slots slot).past
       (w.slots slot).cuts h)
 
   worked_good : (w : World) (l : ℕ) → IsGood w → ((w.lanes l).worked == (w.lanes l).sent) ≡ false
@@ -108,7 +122,8 @@ module _ (c : Catalog) (s : Settings) where
         worked = with_all (λ m y. y.worked ≤ y.sent) w.lanes l x (omega arith) g.worked;
         sent = with_all (λ m y. y.sent ≤ length (lane_marks c s w.journal m)) w.lanes l x (g.sent l) g.sent;
         slots =
-            λ slot. with_all (λ m y. Same slot w m (w.lanes m) → Same slot w m y) w.lanes l x (more_worked w slot l) (λ m h. h) (lane_of c s slot)
+            λ slot. with_all (λ m y. Same slot w m (w.lanes m) → Same slot w m y) w.lanes l x (more_worked w slot l)
+            (λ m h. h) (lane_of c s slot)
             (g.slots slot);
       }
 
@@ -132,7 +147,8 @@ module _ (c : Catalog) (s : Settings) where
       → IsGood (with_slot w slot (with_given (w.slots slot) p))
   given_good w slot p ps g e =
       let x = w.slots slot in
-      slot_good w slot (with_given x p) g (give (worked_items c s w slot) x.given x.past x.cuts p (g.slots slot) (front_good w slot p ps g e))
+      slot_good w slot (with_given x p) g
+      (give (worked_items c s w slot) x.given x.past x.cuts p (g.slots slot) (front_good w slot p ps g e))
 
   cut_good : (w : World) (slot : ℕ) (p : Placed) (ps : List Placed) → IsGood w → pending c s w slot ≡ p ∷ ps
       → IsGood (with_slot w slot (with_cut (w.slots slot) p))
@@ -140,7 +156,8 @@ module _ (c : Catalog) (s : Settings) where
       let x = w.slots slot in
       let k : Cut = record { opening = p.opening; place = p.place } in
       slot_good w slot (with_cut x p) g
-      (cut_short (worked_items c s w slot) x.given x.past x.cuts p k refl refl (g.slots slot) (front_good w slot p ps g e))
+      (cut_short (worked_items c s w slot) x.given x.past x.cuts p k refl refl (g.slots slot)
+      (front_good w slot p ps g e))
 
   good_keeps : Keeps c s IsGood
   good_keeps = record {
@@ -172,17 +189,20 @@ module _ (c : Catalog) (s : Settings) where
     sent = λ l. omega arith;
     slots =
         λ slot. none_given slot (worked_items c s start slot)
-        (ap (λ ms. items_for slot (answers_of_marks c s (take 0 ms))) (lane_none c s (lane_of c s slot)) ∙ ap (items_for slot) (no_marks c s));
+        (ap (λ ms. items_for slot (answers_of_marks c s (take 0 ms))) (lane_none c s (lane_of c s slot))
+        ∙ ap (items_for slot) (no_marks c s));
   }
 
   -- what a lane's worker has made is a front of what is due
-  pub due_more : (w : World) (slot : ℕ) → (rest : List Item) × (due c s w.journal slot ≡ worked_items c s w slot ++ rest)
+  pub due_more : (w : World) (slot : ℕ)
+      → (rest : List Item) × (due c s w.journal slot ≡ worked_items c s w slot ++ rest)
   due_more w slot =
       let marks = lane_marks c s w.journal (lane_of c s slot) in
       let n = (w.lanes (lane_of c s slot)).worked in
       let found = items_more c s slot (take n marks) (drop n marks) in (
         found.0,
-        sym (lane_due c s slot w.journal) ∙ ap (λ ms. items_for slot (answers_of_marks c s ms)) (sym (take-append-drop n marks)) ∙ found.1,
+        sym (lane_due c s slot w.journal)
+            ∙ ap (λ ms. items_for slot (answers_of_marks c s ms)) (sym (take-append-drop n marks)) ∙ found.1,
       )
 
   pub good_serves : (w : World) (slot : ℕ) → IsGood w → IsServed c s w slot
@@ -202,7 +222,8 @@ module _ (c : Catalog) (s : Settings) where
             let same : worked_items c s w slot ≡ due c s w.journal slot =
             ap (λ k. items_for slot (answers_of_marks c s (take k marks))) all
             ∙ ap (λ ms. items_for slot (answers_of_marks c s ms)) (take-length marks) ∙ lane_due c s slot w.journal in
-            given_all (worked_items c s w slot) x.given x.past x.cuts (g.slots slot) rest.nothing ∙ ap (λ items. shown items x.cuts) same;
+            given_all (worked_items c s w slot) x.given x.past x.cuts (g.slots slot) rest.nothing
+            ∙ ap (λ items. shown items x.cuts) same;
       }
 
   pub serves_all : (steps : List Step) (slot : ℕ) → IsServed c s (run c s steps start) slot

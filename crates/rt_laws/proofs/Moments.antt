@@ -14,7 +14,8 @@ use Rattle.rt_json.proofs.WrittenUtf8.{one_byte}
 use Rattle.rt_laws.proofs.Texts.{word}
 
 two : (n : ℕ) → n < 100 → IsUtf8 (pad2 n)
-two n h = IsUtf8-append ((48 + n / 10) ∷ []) ((48 + n % 10) ∷ []) (one_byte (48 + n / 10) (omega arith)) (one_byte (48 + n % 10) (omega arith))
+two n h = IsUtf8-append ((48 + n / 10) ∷ []) ((48 + n % 10) ∷ []) (one_byte (48 + n / 10) (omega arith))
+    (one_byte (48 + n % 10) (omega arith))
 
 four : (n : ℕ) → n < 10000 → IsUtf8 (pad4 n)
 four n h = IsUtf8-append (pad2 (n / 100)) (pad2 (n % 100)) (two (n / 100) (omega arith)) (two (n % 100) (omega arith))
@@ -24,12 +25,15 @@ behind b bs h u = IsUtf8-append (b ∷ []) bs (one_byte b h) u
 
 year_of : (y : ℤ) → IsYear y → IsUtf8 (year_text y)
 year_of (pos n) h = let b = h.1 in four n (omega (arith, ints))
-year_of (negsuc n) h = IsUtf8-append (codes "-00") (pad4 (suc n)) (word (codes "-00") refl) (let a = h.0 in four (suc n) (omega (arith, ints)))
+year_of (negsuc n) h = IsUtf8-append (codes "-00") (pad4 (suc n)) (word (codes "-00") refl) (let a = h.0 in
+    four (suc n) (omega (arith, ints)))
 
 few_days : (y : ℤ) (m : ℕ) → days_in_month y m ≤ 31
 few_days y m =
-    cond_both (m == 2) _ _ (λ (n : ℕ). n ≤ 31) (λ _. cond_both (is_leap_year y) _ _ (λ (n : ℕ). n ≤ 31) (λ _. omega arith) (λ _. omega arith))
-    (λ _. cond_both ((m == 4) || (m == 6) || (m == 9) || (m == 11)) _ _ (λ (n : ℕ). n ≤ 31) (λ _. omega arith) (λ _. omega arith))
+    cond_both (m == 2) _ _ (λ (n : ℕ). n ≤ 31)
+    (λ _. cond_both (is_leap_year y) _ _ (λ (n : ℕ). n ≤ 31) (λ _. omega arith) (λ _. omega arith))
+    (λ _. cond_both ((m == 4) || (m == 6) || (m == 9) || (m == 11)) _ _ (λ (n : ℕ). n ≤ 31) (λ _. omega arith)
+    (λ _. omega arith))
 
 date : (d : Date) → IsUtf8 (date_text d)
 date d =
@@ -48,7 +52,8 @@ unfolding places
 digits3 n h =
     behind 46 (places 3 1_000_000_000 n) (omega arith)
     (behind (48 + n / 100000000) _ (omega arith)
-    (behind (48 + n % 100000000 / 10000000) _ (omega arith) (one_byte (48 + n % 100000000 % 10000000 / 1000000) (omega arith))))
+    (behind (48 + n % 100000000 / 10000000) _ (omega arith)
+    (one_byte (48 + n % 100000000 % 10000000 / 1000000) (omega arith))))
 
 time : (t : Time) → IsUtf8 (time_text (Some 3) t)
 time t =
@@ -66,7 +71,8 @@ utc : (d : DateTime) → IsUtf8 (utc_text d)
 utc d =
     let later : List ℕ = 84 ∷ time_text (Some 3) d.time in
     IsUtf8-append (date_text d.date ++ later) (codes "Z")
-    (IsUtf8-append (date_text d.date) later (date d.date) (behind 84 (time_text (Some 3) d.time) (omega arith) (time d.time)))
+    (IsUtf8-append (date_text d.date) later (date d.date)
+    (behind 84 (time_text (Some 3) d.time) (omega arith) (time d.time)))
     (word (codes "Z") refl)
 
 pub moment_utf8 : (text moment : List ℕ) → IsMoment text moment → IsUtf8 moment

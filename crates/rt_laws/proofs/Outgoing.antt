@@ -1,5 +1,6 @@
 -- Each message that the server builds is readable.
-use Rattle.std.proofs.Common.{◌≡◌, ℕ, suc, ◌+◌, ◌<◌, ◌≤◌, true, List, [], ◌∷◌, ◌++◌, map, length, Option, Some, None, refl, arith}
+use Rattle.std.proofs.Common.{◌≡◌, ℕ, suc, ◌+◌, ◌<◌, ◌≤◌, true, List, [], ◌∷◌, ◌++◌, map, length, Option, Some, None}
+use Rattle.std.proofs.Common.{refl, arith}
 use Rattle.std.specs.Prelude.{◌^◌, IsUtf8, codes, Bool, false, option_map}
 use Rattle.std.specs.Fmt.{decimal}
 use Rattle.std.specs.List.{filter, enumerate_from, list_all}
@@ -26,7 +27,9 @@ use Rattle.rt_entry.specs.declared.story.Standing.{Standing}
 use Rattle.rt_entry.specs.declared.story.Channel.{Channel}
 use Rattle.rt_entry.specs.declared.story.Track.{Track}
 use Rattle.rt_entry.specs.declared.entry.ChannelView.{ChannelView}
-use Rattle.rt_entry.specs.Messages.{channel_message, close_message, channel_name, subscribed_message, failed_message, tree_field, filter_tree, binding_tree, joined_response, shown_meta, presence_state, presence_diff, broadcast_message, change_message}
+use Rattle.rt_entry.specs.Messages.{channel_message, close_message, channel_name, subscribed_message, failed_message}
+use Rattle.rt_entry.specs.Messages.{tree_field, filter_tree, binding_tree, joined_response, shown_meta, presence_state}
+use Rattle.rt_entry.specs.Messages.{presence_diff, broadcast_message, change_message}
 use Rattle.rt_entry.specs.Readable.{IsReadable}
 use Rattle.rt_laws.proofs.Fitting.{MemberFits, text_fits, number_fits, list_fits, object_fits, fits_up, members_fits}
 use Rattle.rt_laws.proofs.Texts.{is_ascii_byte, word, decimal_utf8, decimal_number}
@@ -78,7 +81,8 @@ numbered_all B n below (x ∷ xs) le a = (((omega arith), a.0), numbered_all B (
 
 -- members
 
-pub text_member : (n : ℕ) (name text : List ℕ) → list_all is_ascii_byte name ≡ true → IsUtf8 text → MemberFits n (field name (Text text))
+pub text_member : (n : ℕ) (name text : List ℕ) → list_all is_ascii_byte name ≡ true → IsUtf8 text
+    → MemberFits n (field name (Text text))
 text_member n name text a u = (word name a, text_fits n text u)
 
 tree_member : (n : ℕ) (name : List ℕ) (o : Option Json) → list_all is_ascii_byte name ≡ true → Maybe (FitsWithin n) o
@@ -90,8 +94,10 @@ text_tree : (n : ℕ) (o : Option (List ℕ)) → Maybe IsUtf8 o → Maybe (Fits
 text_tree n None h = tt
 text_tree n (Some t) h = text_fits n t h
 
-filters_tree : (n : ℕ) (listed : Bool) (texts : List (List ℕ)) → AllOf IsUtf8 texts → Maybe (FitsWithin (suc n)) (filter_tree listed texts)
-filters_tree n true texts a = list_fits n (map Text texts) (all_map_of (FitsWithin n) IsUtf8 Text texts (λ t u. text_fits n t u) a)
+filters_tree : (n : ℕ) (listed : Bool) (texts : List (List ℕ)) → AllOf IsUtf8 texts
+    → Maybe (FitsWithin (suc n)) (filter_tree listed texts)
+filters_tree n true texts a = list_fits n (map Text texts)
+    (all_map_of (FitsWithin n) IsUtf8 Text texts (λ t u. text_fits n t u) a)
 filters_tree n false [] a = tt
 filters_tree n false (t ∷ more) a = text_fits (suc n) t a.0
 
@@ -100,7 +106,8 @@ number_tree_fits levels n small = number_fits levels (decimal n) (decimal_number
 
 -- replies
 
-reply_fits : (status : List ℕ) (n : ℕ) (response : Json) → IsUtf8 status → FitsWithin n response → FitsWithin (suc n) (reply_payload status response)
+reply_fits : (status : List ℕ) (n : ℕ) (response : Json) → IsUtf8 status → FitsWithin n response
+    → FitsWithin (suc n) (reply_payload status response)
 reply_fits status n response u h =
     object_fits n (field (codes "status") (Text status) ∷ field (codes "response") response ∷ [])
     (text_member n (codes "status") status refl u, ((word (codes "response") refl, h), tt))
@@ -122,7 +129,10 @@ module _ (m : Message) (is : IsReadable 63 m) (r : Json) (ref : IsRef r) where
     topic = is.topic;
     event = word (codes "phx_reply") refl;
     payload = reply_fits (codes "error") 66 (reason_of reason) (word (codes "error") refl)
-        (object_fits 65 (field (codes "reason") (Text reason) ∷ []) (text_member 65 (codes "reason") reason refl u, tt));
+        (object_fits 65 (field (codes "reason") (Text reason) ∷ []) (
+          text_member 65 (codes "reason") reason refl u,
+          tt,
+        ));
   }
 
   pub empty_readable : IsReadable 67 (reply_ok r m no_members)
@@ -130,10 +140,12 @@ module _ (m : Message) (is : IsReadable 63 m) (r : Json) (ref : IsRef r) where
 
 -- on a channel
 
-system_fits : (n : ℕ) (text status extension channel : List ℕ) → IsUtf8 text → IsUtf8 status → IsUtf8 extension → IsUtf8 channel
+system_fits : (n : ℕ) (text status extension channel : List ℕ) → IsUtf8 text → IsUtf8 status → IsUtf8 extension
+    → IsUtf8 channel
     → FitsWithin (suc n) (system_payload text status extension channel)
 system_fits n text status extension channel a b d e =
-    object_fits n (field (codes "message") (Text text) ∷ field (codes "status") (Text status) ∷ field (codes "extension") (Text extension) ∷ field
+    object_fits n (field (codes "message") (Text text) ∷ field (codes "status") (Text status)
+    ∷ field (codes "extension") (Text extension) ∷ field
     (codes "channel") (Text channel) ∷ []) (
       text_member n (codes "message") text refl a,
       (
@@ -150,7 +162,8 @@ binding_fits n below b le h =
     let f = h.1 in
     let table = tree_field (codes "table") (option_map Text b.1.binding.table) in
     let filter = tree_field (codes "filter") (filter_tree b.1.binding.listed b.1.binding.filters) in
-    let front = field (codes "id") (number_tree b.0) ∷ field (codes "event") (Text b.1.binding.wanted) ∷ field (codes "schema")
+    let front = field (codes "id") (number_tree b.0) ∷ field (codes "event") (Text b.1.binding.wanted)
+    ∷ field (codes "schema")
     (Text b.1.binding.schema) ∷ table in
     let fits = all_append (MemberFits (suc n)) front filter (
       (word (codes "id") refl, number_tree_fits (suc n) b.0 small),
@@ -158,7 +171,8 @@ binding_fits n below b le h =
         text_member (suc n) (codes "event") b.1.binding.wanted refl f.event,
         (
           text_member (suc n) (codes "schema") b.1.binding.schema refl f.schema,
-          tree_member (suc n) (codes "table") (option_map Text b.1.binding.table) refl (text_tree (suc n) b.1.binding.table f.table),
+          tree_member (suc n) (codes "table") (option_map Text b.1.binding.table) refl
+              (text_tree (suc n) b.1.binding.table f.table),
         ),
       ),
     )
@@ -171,7 +185,8 @@ pub posted_fits : (p : Posting) → IsPosted p → FitsWithin 63 (posted_payload
 posted_fits p is =
     let payload = fits_up 1 61 p.payload is.payload in
     object_fits 62
-    (field (codes "type") (Text (codes "broadcast")) ∷ field (codes "event") (Text p.event) ∷ field (codes "payload") p.payload ∷ []) (
+    (field (codes "type") (Text (codes "broadcast")) ∷ field (codes "event") (Text p.event)
+    ∷ field (codes "payload") p.payload ∷ []) (
       text_member 62 (codes "type") (codes "broadcast") refl (word (codes "broadcast") refl),
       (text_member 62 (codes "event") p.event refl is.event, ((word (codes "payload") refl, payload), tt)),
     )
@@ -179,8 +194,13 @@ posted_fits p is =
 module _ (ch : Channel) (f : ChannelFits ch) where
   on_channel : (event : List ℕ) (payload : Json) → list_all is_ascii_byte event ≡ true → FitsWithin 66 payload
       → IsReadable 67 (channel_message ch event payload)
-  on_channel event payload a h =
-      record { join_ref = f.join_ref; reference = tt; topic = f.topic; event = word event a; payload = fits_up 1 66 payload h }
+  on_channel event payload a h = record {
+    join_ref = f.join_ref;
+    reference = tt;
+    topic = f.topic;
+    event = word event a;
+    payload = fits_up 1 66 payload h;
+  }
 
   pub close_readable : IsReadable 67 (close_message ch)
   close_readable = record {
@@ -194,12 +214,15 @@ module _ (ch : Channel) (f : ChannelFits ch) where
 
   pub subscribed_readable : IsReadable 67 (subscribed_message ch)
   subscribed_readable =
-      on_channel (codes "system") _ refl (system_fits 65 (codes "Subscribed to PostgreSQL") (codes "ok") (codes "postgres_changes") (channel_name ch)
-      (word (codes "Subscribed to PostgreSQL") refl) (word (codes "ok") refl) (word (codes "postgres_changes") refl) f.name)
+      on_channel (codes "system") _ refl
+      (system_fits 65 (codes "Subscribed to PostgreSQL") (codes "ok") (codes "postgres_changes") (channel_name ch)
+      (word (codes "Subscribed to PostgreSQL") refl) (word (codes "ok") refl)
+      (word (codes "postgres_changes") refl) f.name)
 
   pub failed_readable : (reason : List ℕ) → IsUtf8 reason → IsReadable 67 (failed_message ch reason)
   failed_readable reason u =
-      on_channel (codes "system") _ refl (system_fits 65 reason (codes "error") (codes "system") (channel_name ch) u (word (codes "error") refl)
+      on_channel (codes "system") _ refl
+      (system_fits 65 reason (codes "error") (codes "system") (channel_name ch) u (word (codes "error") refl)
       (word (codes "system") refl) f.name)
 
   pub joined_fits : FitsWithin 65 (joined_response ch)
@@ -207,7 +230,8 @@ module _ (ch : Channel) (f : ChannelFits ch) where
       let below = ch.first_id + length ch.bindings in
       let small = f.ids in
       let numbered = enumerate_from ch.first_id ch.bindings in
-      let trees = all_map_of (FitsWithin 63) (Numbered below SubscribedFits) binding_tree numbered (λ b h. binding_fits 61 below b (omega arith) h)
+      let trees = all_map_of (FitsWithin 63) (Numbered below SubscribedFits) binding_tree numbered
+      (λ b h. binding_fits 61 below b (omega arith) h)
       (numbered_all SubscribedFits ch.first_id below ch.bindings (omega arith) f.bindings) in
       object_fits 64 (field (codes "postgres_changes") (j.List (map binding_tree numbered)) ∷ [])
       ((word (codes "postgres_changes") refl, list_fits 63 (map binding_tree numbered) trees), tt)
@@ -235,7 +259,8 @@ module _ (ch : Channel) (f : ChannelFits ch) where
   key_metas : (held : List Held) (key : List ℕ) → AllOf HeldFits held → IsUtf8 key → MemberFits 64 (metas_of held key)
   key_metas held key a u =
       let own = all_filter HeldFits (λ (h : Held). bytes_eq h.0 key) held a in
-      let metas = all_map_of (FitsWithin 62) HeldFits (λ (h : Held). h.1) (filter (λ (h : Held). bytes_eq h.0 key) held) (λ h f. f.1) own in (
+      let metas = all_map_of (FitsWithin 62) HeldFits (λ (h : Held). h.1) (filter (λ (h : Held). bytes_eq h.0 key) held)
+      (λ h f. f.1) own in (
         u,
         object_fits 63 (field (codes "metas") (j.List (under_key held key)) ∷ [])
             ((word (codes "metas") refl, list_fits 62 (under_key held key) metas), tt),
@@ -245,26 +270,33 @@ module _ (ch : Channel) (f : ChannelFits ch) where
   metas_fit held a =
       let keys = map (λ (h : Held). h.0) held in
       let order = slice_cmp nat_cmp in
-      let ordered = ordered_all order IsUtf8 keys (all_map_of IsUtf8 HeldFits (λ (h : Held). h.0) held (λ h f. f.0) a) in
+      let ordered = ordered_all order IsUtf8 keys
+      (all_map_of IsUtf8 HeldFits (λ (h : Held). h.0) held (λ h f. f.0) a) in
       object_fits 64 (map (metas_of held) (in_order order keys))
-      (all_map_of (MemberFits 64) IsUtf8 (metas_of held) (in_order order keys) (λ key u. key_metas held key a u) ordered)
+      (all_map_of (MemberFits 64) IsUtf8 (metas_of held) (in_order order keys)
+      (λ key u. key_metas held key a u) ordered)
 
   pub state_readable : (tracks : List Track) → AllOf TrackFits tracks → IsReadable 67 (presence_state ch tracks)
   state_readable tracks a =
       let tree = metas_tree (map shown_meta tracks) in
-      on_channel (codes "presence_state") tree refl (fits_up 1 65 tree (metas_fit (map shown_meta tracks) (all_shown tracks a)))
+      on_channel (codes "presence_state") tree refl
+      (fits_up 1 65 tree (metas_fit (map shown_meta tracks) (all_shown tracks a)))
 
-  pub diff_readable : (joins leaves : List Track) → AllOf TrackFits joins → AllOf TrackFits leaves → IsReadable 67 (presence_diff ch joins leaves)
+  pub diff_readable : (joins leaves : List Track) → AllOf TrackFits joins → AllOf TrackFits leaves
+      → IsReadable 67 (presence_diff ch joins leaves)
   diff_readable joins leaves a b =
       let joined = map shown_meta joins in
       let left = map shown_meta leaves in
       on_channel (codes "presence_diff") _ refl
-      (object_fits 65 (field (codes "joins") (metas_tree joined) ∷ field (codes "leaves") (metas_tree left) ∷ [])
-      ((word (codes "joins") refl, metas_fit joined (all_shown joins a)), ((word (codes "leaves") refl, metas_fit left (all_shown leaves b)), tt)))
+      (object_fits 65 (field (codes "joins") (metas_tree joined) ∷ field (codes "leaves") (metas_tree left) ∷ []) (
+        (word (codes "joins") refl, metas_fit joined (all_shown joins a)),
+        ((word (codes "leaves") refl, metas_fit left (all_shown leaves b)), tt),
+      ))
 
 -- the changes of a channel
 
-pub change_readable : (to : ChannelView) (ids : List ℕ) (tree : Json) → IsRef to.join_ref → IsUtf8 to.topic → AllOf Small ids → FitsWithin 66 tree
+pub change_readable : (to : ChannelView) (ids : List ℕ) (tree : Json) → IsRef to.join_ref → IsUtf8 to.topic
+    → AllOf Small ids → FitsWithin 66 tree
     → IsReadable 67 (change_message to ids tree)
 change_readable to ids tree ref topic small h =
     let numbers = all_map_of (FitsWithin 65) Small number_tree ids (λ n s. number_tree_fits 65 n s) small in
@@ -273,6 +305,8 @@ change_readable to ids tree ref topic small h =
       reference = tt;
       topic = topic;
       event = word (codes "postgres_changes") refl;
-      payload = object_fits 66 (field (codes "ids") (j.List (map number_tree ids)) ∷ field (codes "data") tree ∷ [])
-          ((word (codes "ids") refl, list_fits 65 (map number_tree ids) numbers), ((word (codes "data") refl, h), tt));
+      payload = object_fits 66 (field (codes "ids") (j.List (map number_tree ids)) ∷ field (codes "data") tree ∷ []) (
+        (word (codes "ids") refl, list_fits 65 (map number_tree ids) numbers),
+        ((word (codes "data") refl, h), tt),
+      );
     }

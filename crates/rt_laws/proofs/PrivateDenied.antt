@@ -12,7 +12,10 @@ use Rattle.rt_entry.specs.declared.input.Settings.{Settings}
 use Rattle.rt_entry.specs.declared.story.Part.{Part}
 use Rattle.rt_entry.specs.Doings.{doings, posting_parts, may_post, may_send}
 use Rattle.rt_entry.specs.Answers.{answer_of, answers_by}
-use Rattle.rt_laws.specs.Private.{DenialsAreReasons, ReasonsAreDenials, NothingIsDenied, PostsRunOut, EachIsPosted, found_by, tables_by}
+use Rattle.rt_laws.specs.Private.{DenialsAreReasons, ReasonsAreDenials, NothingIsDenied, PostsRunOut, EachIsPosted}
+use Rattle.rt_laws.specs.Private.{tables_by}
+use Rattle.rt_catalog.proofs.Found.{bind_some}
+use Rattle.rt_entry.specs.After.{found_by}
 
 pub posts_run_out : (c : Catalog) (s : Settings) → PostsRunOut c s
 unfolding answers_by doings
@@ -23,10 +26,6 @@ posts_run_out c s before slot claims messages e =
     ap (λ (b : Bool). filter_map answer_of (elim b as (λ x. List Part) [ true ↦ [] | false ↦ said ])) e
 
 module _ (c : Catalog) where
-  bind_some : {A B : Type 0} (o : Option A) (f : A → Option B) (y : B) → (o >>= f) ≡ Some y → (x : A) × (o ≡ Some x) × (f x ≡ Some y)
-  bind_some None f y e = absurd (cc)
-  bind_some (Some x) f y e = (x, refl, e)
-
   pub denials_are_reasons : DenialsAreReasons c
   unfolding denial
   denials_are_reasons rows role claims name use_ why e =
@@ -45,4 +44,5 @@ module _ (c : Catalog) where
 
 pub each_is_posted : (c : Catalog) (s : Settings) → EachIsPosted c s
 each_is_posted c s e now tables claims p =
-    ap (λ (o : Option Messages). is_none o || is_at (may_send c s now tables claims p.topic) (role_named c claims.role)) e
+    ap (λ (o : Option Messages). is_none o || is_at (may_send c s now tables claims p.topic) (role_named c claims.role))
+    e

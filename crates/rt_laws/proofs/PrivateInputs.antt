@@ -13,10 +13,11 @@ use Rattle.rt_entry.specs.declared.story.Part.TheVariants.{Opens, Ends, Tells, J
 use Rattle.rt_entry.specs.declared.answer.Answer.{Answer}
 use Rattle.rt_entry.specs.declared.answer.Answer.TheVariants.{Says}
 use Rattle.rt_entry.specs.Answers.{answer_of, answers_by, answers}
-use Rattle.rt_laws.specs.After.{done_by}
-use Rattle.rt_laws.specs.Members.{members_of_journal}
-use Rattle.rt_laws.specs.Private.{IsSent, IsPosted, JoinsAreJudged, RenewalsAreJudged, BroadcastsArePermitted, TracksArePermitted, found_by, tables_by}
-use Rattle.rt_laws.proofs.Once.{numbers_apart}
+use Rattle.rt_entry.specs.After.{done_by, found_by}
+use Rattle.rt_entry.specs.Members.{members_of_journal}
+use Rattle.rt_laws.specs.Private.{IsSent, IsPosted, JoinsAreJudged, RenewalsAreJudged, BroadcastsArePermitted}
+use Rattle.rt_laws.specs.Private.{TracksArePermitted, tables_by}
+use Rattle.rt_entry.proofs.Once.{numbers_apart}
 use Rattle.rt_laws.proofs.Shaping.{all_filter_map}
 use Rattle.rt_laws.proofs.PrivateParts.{AreNumbered, Permitted, all_doings}
 
@@ -81,7 +82,8 @@ module _ (c : Catalog) (s : Settings) where
     all_said = all_filter_map Given Said answer_of (done_by c s before i) said_of all_given
 
     pub said : (slot : ℕ) (m : Message) → Contains (answers c s before i) (slot, Says m) → Said (slot, Says m)
-    said slot m there = all_among Said (answers c s before i) (slot, Says m) all_said (from_contains (answers c s before i) (slot, Says m) there)
+    said slot m there = all_among Said (answers c s before i) (slot, Says m) all_said
+        (from_contains (answers c s before i) (slot, Says m) there)
 
   pub joins_judged : JoinsAreJudged c s
   joins_judged before i ch there = given before i (Joins ch) there
@@ -97,4 +99,10 @@ module _ (c : Catalog) (s : Settings) where
   pub tracks_permitted : TracksArePermitted c s
   tracks_permitted before i t there =
       let r = given before i (Tracks t) there in
-      record { member = r.0; known = to_contains (members_of_journal c s before) r.0 r.1; numbered = r.2; topical = r.3; permitted = r.4 }
+      record {
+        member = r.0;
+        known = to_contains (members_of_journal c s before) r.0 r.1;
+        numbered = r.2;
+        topical = r.3;
+        permitted = r.4;
+      }

@@ -1,6 +1,8 @@
 -- A join that is accepted and a renewal were judged.
-use Rattle.std.proofs.Common.{◌≡◌, ℕ, ◌+◌, Bool, true, false, ◌&&◌, List, map, Option, Some, None, Ok, Err, refl, ap, subst}
+use Rattle.std.proofs.Common.{◌≡◌, ℕ, ◌+◌, Bool, true, false, ◌&&◌, List, map, Option, Some, None, Ok, Err, refl, ap}
+use Rattle.std.proofs.Common.{subst}
 use Rattle.std.specs.Prelude.{⊤, Result, codes, nat_lt, is_none}
+use Rattle.std.proofs.lemmas.Bool.{and_parts}
 use Rattle.rt_value.specs.declared.claims.Claims.{Claims}
 use Rattle.rt_value.specs.declared.row.Row.{Row}
 use Rattle.rt_json.specs.declared.tree.Json.{Json}
@@ -18,7 +20,9 @@ use Rattle.rt_entry.specs.declared.story.Opening.{Opening}
 use Rattle.rt_entry.specs.declared.story.Standing.{Standing}
 use Rattle.rt_entry.specs.declared.story.Channel.{Channel}
 use Rattle.rt_entry.specs.Story.{Now}
-use Rattle.rt_entry.specs.Joining.{Checked, ◌>>◌, or_why, demand, told_by, registry_text, channel_limit, binding_of, key_of, join_ref_of, asked_claims, unless, is_as_private, denied, standing_for, has_presence, channel_of_join, renewal_of}
+use Rattle.rt_entry.specs.Joining.{Checked, ◌>>◌, or_why, demand, told_by, registry_text, channel_limit, binding_of}
+use Rattle.rt_entry.specs.Joining.{key_of, join_ref_of, asked_claims, unless, is_as_private, denied, standing_for}
+use Rattle.rt_entry.specs.Joining.{has_presence, channel_of_join, renewal_of, made_channel}
 use Rattle.rt_laws.specs.Private.{IsJudged, IsAdmitted}
 
 -- a value, where there is one, has something
@@ -26,7 +30,8 @@ abbrev pub IsGood : {A : Type 0} → (A → Type 0) → Checked A → Type 0
 IsGood B (Ok x) = B x
 IsGood B (Err why) = ⊤
 
-good_bind : {A C : Type 0} (D : C → Type 0) (r : Checked A) (f : A → Checked C) → ((x : A) → r ≡ Ok x → IsGood D (f x)) → IsGood D (r >> f)
+good_bind : {A C : Type 0} (D : C → Type 0) (r : Checked A) (f : A → Checked C) → ((x : A) → r ≡ Ok x → IsGood D (f x))
+    → IsGood D (r >> f)
 good_bind D (Ok x) f k = k x refl
 good_bind D (Err why) f k = tt
 
@@ -45,12 +50,9 @@ none_is : (o : Option (List ℕ)) → is_none o ≡ true → o ≡ None
 none_is None e = refl
 none_is (Some why) e = absurd (cc)
 
-second_is : (a b : Bool) → (a && b) ≡ true → b ≡ true
-second_is true b e = e
-second_is false b e = absurd (cc)
-
 module _ (c : Catalog) (tables : List (List Row)) where
-  standing_judged : (topic : List ℕ) (claims : Claims) → IsGood (IsJudged c tables topic) (standing_for c tables (name_in topic) claims)
+  standing_judged : (topic : List ℕ) (claims : Claims)
+      → IsGood (IsJudged c tables topic) (standing_for c tables (name_in topic) claims)
   unfolding standing_for
   standing_judged topic claims =
       let name = name_in topic in
@@ -81,27 +83,17 @@ module _ (c : Catalog) (tables : List (List Row)) where
         good_bind B (standing_for c tables name claims) _ (λ standing made.
         good_bind B (demand (nat_lt others channel_limit) (codes "too many channels")) _ (λ _ _.
         good_bind B (told_by registry_text (bindings_for c claims (map binding_of config.bindings)))
-        (λ bindings. Ok (record {
-          number = now.number;
-          slot = slot;
-          topic = m.topic;
-          join_ref = join_ref_of m;
-          standing = standing;
-          bindings = bindings;
-          first_id = now.ids + 1;
-          ack = config.ack;
-          own = config.own;
-          presence = has_presence c tables config name standing;
-          key = key_of now.number config.key;
-        }))
+        (λ bindings. Ok (made_channel c tables now slot m config standing bindings))
         (λ bindings _. record {
-          judged = good_value (IsJudged c tables m.topic) (standing_for c tables name claims) standing (standing_judged m.topic claims) made;
+          judged = good_value (IsJudged c tables m.topic) (standing_for c tables name claims) standing
+              (standing_judged m.topic claims) made;
           presence = λ e.
               let right = denied c tables standing.role standing.claims name private.presence in
-              none_is right (second_is config.presence (is_none right) e);
+              none_is right (and_parts config.presence (is_none right) e).1;
         }))))))
 
-    pub renewal_judged : (o : Opening) (ch : Channel) (token : Json) → IsGood (IsJudged c tables ch.topic) (renewal_of c tables s now o ch token)
+    pub renewal_judged : (o : Opening) (ch : Channel) (token : Json)
+        → IsGood (IsJudged c tables ch.topic) (renewal_of c tables s now o ch token)
     unfolding renewal_of
     renewal_judged o ch token =
         let B : Standing → Type 0 = IsJudged c tables ch.topic in
@@ -109,4 +101,5 @@ module _ (c : Catalog) (tables : List (List Row)) where
         good_bind B (asked_claims s now o (Some token)) _ (λ claims _.
         good_bind B (standing_for c tables (name_in ch.topic) claims) _ (λ standing made.
         good_bind B (told_by registry_text (bindings_for c claims same)) (λ _. Ok standing)
-        (λ _ _. good_value B (standing_for c tables (name_in ch.topic) claims) standing (standing_judged ch.topic claims) made)))
+        (λ _ _. good_value B (standing_for c tables (name_in ch.topic) claims) standing
+        (standing_judged ch.topic claims) made)))

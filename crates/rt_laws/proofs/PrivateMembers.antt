@@ -1,9 +1,11 @@
--- Every member was judged by an input of the journal: that by which its channel joined, or by which it was last renewed.
+-- Every member was judged by an input of the journal: that by which its channel joined, or by which it was last
+-- renewed.
 use Rattle.std.proofs.Common.{◌≡◌, ◌⊎◌, ℕ, List, [], ◌∷◌, map, Some, None, refl, sym, ap, subst, ◌∙◌, inl, inr}
 use Rattle.std.specs.Prelude.{if◌then◌else◌, Contains}
 use Rattle.std.specs.List.{filter, filter_map}
 use Rattle.std.proofs.lemmas.Bool.Decides.{eqb_tells}
-use Rattle.rt_value.proofs.Among.{Among, from_contains, to_contains, among_either, among_map, among_filter, among_filter_map}
+use Rattle.rt_value.proofs.Among.{Among, from_contains, to_contains, among_either, among_map, among_filter}
+use Rattle.rt_value.proofs.Among.{among_filter_map}
 use Rattle.rt_catalog.specs.declared.catalog.Catalog.{Catalog}
 use Rattle.rt_entry.specs.declared.input.Input.{Input}
 use Rattle.rt_entry.specs.declared.input.Settings.{Settings}
@@ -14,10 +16,10 @@ use Rattle.rt_entry.specs.declared.story.Part.{Part}
 use Rattle.rt_entry.specs.declared.story.Part.TheVariants.{Opens, Ends, Tells, Joins, Renews, Tracks, Untracks, Departs}
 use Rattle.rt_entry.specs.Story.{Now, now_of, joined, joined_by, renewed_by, first_or, members_at}
 use Rattle.rt_entry.specs.Doings.{story}
-use Rattle.rt_laws.specs.After.{joins_of, remains, with_standing, renewed, new_member, members_after, after, done_by}
-use Rattle.rt_laws.specs.Members.{members_of_journal}
+use Rattle.rt_entry.specs.After.{joins_of, remains, with_standing, renewed, new_member, members_after, after, done_by}
+use Rattle.rt_entry.specs.Members.{members_of_journal}
 use Rattle.rt_laws.specs.Private.{IsJudged, WasJudged, MembersAreJudged, tables_by}
-use Rattle.rt_laws.proofs.Journals.{story_grows}
+use Rattle.rt_entry.proofs.Journals.{story_grows}
 use Rattle.rt_laws.proofs.PrivateInputs.{numbered, joins_judged, renewals_judged}
 
 joined_part : (p : Part) (ch : Channel) → joined_by p ≡ Some ch → p ≡ Joins ch
@@ -77,7 +79,8 @@ module _ (c : Catalog) (s : Settings) where
   }
 
   module _ (i : Input) (before : List Input) where
-    now_joined : (ch : Channel) → Contains (done_by c s before i) (Joins ch) → WasJudged c s (i ∷ before) (new_member ch)
+    now_joined : (ch : Channel) → Contains (done_by c s before i) (Joins ch)
+        → WasJudged c s (i ∷ before) (new_member ch)
     now_joined ch there = record {
       later = [];
       input = i;
@@ -88,13 +91,21 @@ module _ (c : Catalog) (s : Settings) where
     }
 
     now_renewed : (h : Member) (x : Standing) → Among (members_of_journal c s before) h
-        → Contains (done_by c s before i) (Renews h.channel.number x) → WasJudged c s (i ∷ before) (with_standing h.channel x)
+        → Contains (done_by c s before i) (Renews h.channel.number x)
+        → WasJudged c s (i ∷ before) (with_standing h.channel x)
     now_renewed h x here there =
         let r = renewals_judged c s before i h.channel.number x there in
         let ms = members_of_journal c s before in
         let same : r.member ≡ h = numbered c s before r.member h (from_contains ms r.member r.known) here r.numbered in
         let P : Member → Type 0 = λ g. IsJudged c (tables_by c s before i) g.channel.topic x in
-        record { later = []; input = i; before = before; whole = refl; made = inr there; judged = subst P same r.judged }
+        record {
+          later = [];
+          input = i;
+          before = before;
+          whole = refl;
+          made = inr there;
+          judged = subst P same r.judged;
+        }
 
     stayed : (h : Member) → Among (members_of_journal c s before) h → WasJudged c s before h
         → WasJudged c s (i ∷ before) (renewed (done_by c s before i) h)

@@ -1,6 +1,8 @@
 -- A change that is bound of a line's record has trees that fit.
-use Rattle.std.proofs.Common.{◌≡◌, ℕ, suc, Bool, true, false, not, ◌&&◌, List, [], ◌∷◌, length, ℤ, Option, Some, None, Ok, Err, sym, subst, arith}
-use Rattle.std.specs.Prelude.{⊤, IsUtf8, codes, Result, All, find, option_map, unwrap_or, is_some, if◌then◌else◌, MatchOption}
+use Rattle.std.proofs.Common.{◌≡◌, ℕ, suc, Bool, true, false, not, ◌&&◌, List, [], ◌∷◌, length, ℤ, Option, Some, None}
+use Rattle.std.proofs.Common.{Ok, Err, sym, subst, arith}
+use Rattle.std.specs.Prelude.{⊤, IsUtf8, codes, Result, All, find, option_map, unwrap_or, is_some, if◌then◌else◌}
+use Rattle.std.specs.Prelude.{MatchOption}
 use Rattle.std.specs.List.{AllByRecursion}
 use Rattle.std.specs.Str.{bytes_eq}
 use Rattle.rt_value.specs.Choice.{some_if}
@@ -18,7 +20,8 @@ use Rattle.rt_wal.specs.declared.records.Record.{Record}
 use Rattle.rt_wal.specs.declared.records.Field.{Field}
 use Rattle.rt_wal.specs.declared.records.Action.{Action}
 use Rattle.rt_wal.specs.Records.{content_of}
-use Rattle.rt_wal.specs.Shapes.{layer_items, each, name_of, field_of, are_named, named_items, items_or_none, fields_in, keys_in, has_row, shows_row, name_for, action_in, shape_of}
+use Rattle.rt_wal.specs.Shapes.{layer_items, each, name_of, field_of, are_named, named_items, items_or_none, fields_in}
+use Rattle.rt_wal.specs.Shapes.{keys_in, has_row, shows_row, name_for, action_in, shape_of}
 use Rattle.rt_wal.specs.Times.{IsTimeAt, IsTimeIn, IsMoment}
 use Rattle.rt_catalog.specs.declared.catalog.Catalog.{Catalog}
 use Rattle.rt_catalog.specs.declared.catalog.Table.{Table}
@@ -32,7 +35,9 @@ use Rattle.rt_change.specs.declared.change.Bound.TheVariants as bound
 use Rattle.rt_change.specs.declared.fault.ChangeFault.{ChangeFault}
 use Rattle.rt_change.specs.declared.fault.ChangeFault.TheVariants.{KeyDiffers}
 use Rattle.rt_change.specs.Binding as binding
-use Rattle.rt_change.specs.Binding.{IsOfLine, or_fault, tree_for, face, face_for, faces_for, fields_fit, cells_for, verb_of, keys_differ, key_given, new_fields, old_fields, used, change_with, bound_to, bound_at, change_of}
+use Rattle.rt_change.specs.Binding.{IsOfLine, or_fault, tree_for, face, face_for, faces_for, fields_fit, cells_for}
+use Rattle.rt_change.specs.Binding.{verb_of, keys_differ, key_given, new_fields, old_fields, used, change_with}
+use Rattle.rt_change.specs.Binding.{bound_to, bound_at, change_of}
 use Rattle.rt_value.proofs.Plain.{AllOf, all_append, all_map, Maybe, find_of}
 use Rattle.rt_laws.proofs.Fitting.{read_fits, member_fits_in, text_fits, fits_up}
 use Rattle.rt_laws.proofs.Moments.{moment_utf8}
@@ -46,7 +51,8 @@ FieldFits f = FitsWithin 61 f.tree
 
 field_fits : (tree : Json) → FitsWithin 62 tree → Maybe FieldFits (field_of tree)
 field_fits tree h =
-    bind_of (λ (name : List ℕ). ⊤) FieldFits (name_of tree) (λ name. option_map (λ value. record { name = name; tree = value })
+    bind_of (λ (name : List ℕ). ⊤) FieldFits (name_of tree)
+    (λ name. option_map (λ value. record { name = name; tree = value })
     (member_of tree (codes "value"))) (any (name_of tree)) (λ name _.
     valued name (member_of tree (codes "value")) (member_fits_in 61 tree (codes "value") h))
   where
@@ -59,24 +65,28 @@ field_fits tree h =
     valued name None k = tt
     valued name (Some value) k = k
 
-consed : (f : Field) (o : Option (List Field)) → FieldFits f → Maybe (AllOf FieldFits) o → Maybe (AllOf FieldFits) (option_map (λ fs. f ∷ fs) o)
+consed : (f : Field) (o : Option (List Field)) → FieldFits f → Maybe (AllOf FieldFits) o
+    → Maybe (AllOf FieldFits) (option_map (λ fs. f ∷ fs) o)
 consed f None h k = tt
 consed f (Some fs) h k = (h, k)
 
 each_fits : (trees : List Json) → AllByRecursion (FitsWithin 62) trees → Maybe (AllOf FieldFits) (each field_of trees)
 each_fits [] h = tt
 each_fits (tree ∷ trees) h =
-    bind_of FieldFits (AllOf FieldFits) (field_of tree) (λ f. option_map (λ fs. f ∷ fs) (each field_of trees)) (field_fits tree h.0)
+    bind_of FieldFits (AllOf FieldFits) (field_of tree) (λ f. option_map (λ fs. f ∷ fs) (each field_of trees))
+    (field_fits tree h.0)
     (λ f k. consed f (each field_of trees) k (each_fits trees h.1))
 
-named_fit : (trees : List Json) (b : Bool) → AllByRecursion (FitsWithin 62) trees → Maybe (AllOf FieldFits) (if b then each field_of trees else None)
+named_fit : (trees : List Json) (b : Bool) → AllByRecursion (FitsWithin 62) trees
+    → Maybe (AllOf FieldFits) (if b then each field_of trees else None)
 named_fit trees true h = each_fits trees h
 named_fit trees false h = tt
 
 items_of : (tree : Json) → FitsWithin 63 tree → Maybe (AllByRecursion (FitsWithin 62)) (layer_items (out-Json tree))
 items_of tree h = by (out-Json tree) h
   where
-    by : (layer : Json-F Json Member) → FitsOver (FitsWithin 62) layer → Maybe (AllByRecursion (FitsWithin 62)) (layer_items layer)
+    by : (layer : Json-F Json Member) → FitsOver (FitsWithin 62) layer
+        → Maybe (AllByRecursion (FitsWithin 62)) (layer_items layer)
     by (Json-F.List items) k = k
     by Json-F.Null k = tt
     by (Json-F.Bool b) k = tt
@@ -87,14 +97,16 @@ items_of tree h = by (out-Json tree) h
 or_none_fits : (o : Option Json) → Maybe (FitsWithin 63) o → Maybe (AllOf FieldFits) (items_or_none field_of o)
 or_none_fits None h = tt
 or_none_fits (Some tree) h =
-    bind_of (AllByRecursion (FitsWithin 62)) (AllOf FieldFits) (layer_items (out-Json tree)) (named_items field_of) (items_of tree h)
+    bind_of (AllByRecursion (FitsWithin 62)) (AllOf FieldFits) (layer_items (out-Json tree)) (named_items field_of)
+    (items_of tree h)
     (λ trees k. named_fit trees (are_named trees) k)
 
 fields_in_fit : (tree : Json) (name : List ℕ) → FitsWithin 64 tree → Maybe (AllOf FieldFits) (fields_in tree name)
 fields_in_fit tree name h = or_none_fits (member_of tree name) (member_fits_in 63 tree name h)
 
 row_fits : (action : Action) (tree : Json) → FitsWithin 64 tree → Maybe (AllOf FieldFits) (shows_row action tree)
-row_fits action tree h = by (has_row action && not (is_some (member_of tree (codes "columns")))) (fields_in_fit tree (codes "columns") h)
+row_fits action tree h = by (has_row action && not (is_some (member_of tree (codes "columns"))))
+    (fields_in_fit tree (codes "columns") h)
   where
     by : (b : Bool) → Maybe (AllOf FieldFits) (fields_in tree (codes "columns"))
         → Maybe (AllOf FieldFits) (if b then None else fields_in tree (codes "columns"))
@@ -112,12 +124,24 @@ anything (Some x) = tt
 shape_fits : (size : ℕ) (tree : Json) → FitsWithin 64 tree → Maybe FieldsFit (shape_of size tree)
 shape_fits size tree h =
     bind_of (λ (x : Action). ⊤) FieldsFit (action_in tree) _ (anything (action_in tree)) (λ action _.
-    bind_of (λ (x : List ℕ). ⊤) FieldsFit (name_for action tree (codes "schema")) _ (anything (name_for action tree (codes "schema"))) (λ schema _.
-    bind_of (λ (x : List ℕ). ⊤) FieldsFit (name_for action tree (codes "table")) _ (anything (name_for action tree (codes "table"))) (λ table _.
+    bind_of (λ (x : List ℕ). ⊤) FieldsFit (name_for action tree (codes "schema")) _
+    (anything (name_for action tree (codes "schema"))) (λ schema _.
+    bind_of (λ (x : List ℕ). ⊤) FieldsFit (name_for action tree (codes "table")) _
+    (anything (name_for action tree (codes "table"))) (λ table _.
     bind_of (AllOf FieldFits) FieldsFit (shows_row action tree) _ (row_fits action tree h) (λ columns a.
-    bind_of (AllOf FieldFits) FieldsFit (fields_in tree (codes "identity")) _ (fields_in_fit tree (codes "identity") h) (λ identity b.
+    bind_of (AllOf FieldFits) FieldsFit (fields_in tree (codes "identity")) _ (fields_in_fit tree (codes "identity") h)
+    (λ identity b.
     let last : List (List ℕ) → Option Record = λ keys. Some
-    (record { action = action; schema = schema; table = table; columns = columns; identity = identity; keys = keys; moment = None; size = size }) in
+    (record {
+      action = action;
+      schema = schema;
+      table = table;
+      columns = columns;
+      identity = identity;
+      keys = keys;
+      moment = None;
+      size = size;
+    }) in
     bind_of (λ (x : List (List ℕ)). ⊤) FieldsFit (keys_in tree) last (anything (keys_in tree)) (λ keys _.
     record { columns = a; identity = b }))))))
 
@@ -155,7 +179,8 @@ BoundFits (Ok (bound.Change ch)) = ChangeFits ch
 BoundFits (Ok bound.Skip) = ⊤
 BoundFits (Err e) = ⊤
 
-bound_bind : {A : Type 0} (r : Result A ChangeFault) (f : A → Result Bound ChangeFault) → ((x : A) → BoundFits (f x)) → BoundFits (binding.◌>>◌ r f)
+bound_bind : {A : Type 0} (r : Result A ChangeFault) (f : A → Result Bound ChangeFault) → ((x : A) → BoundFits (f x))
+    → BoundFits (binding.◌>>◌ r f)
 bound_bind (Ok x) f k = k x
 bound_bind (Err e) f k = tt
 
@@ -174,7 +199,8 @@ moment_shown_fits : (text : List ℕ) (o : Option ℤ) → FitsWithin 64 (Text t
 moment_shown_fits text None h = h
 moment_shown_fits text (Some m) h = text_fits 64 (moment_shown m) (moments_utf8 m)
 
-read_tree_fits : (text : List ℕ) (o : Option Json) → Maybe (FitsWithin 64) o → FitsWithin 64 (Text text) → FitsWithin 64 (unwrap_or o (Text text))
+read_tree_fits : (text : List ℕ) (o : Option Json) → Maybe (FitsWithin 64) o → FitsWithin 64 (Text text)
+    → FitsWithin 64 (unwrap_or o (Text text))
 read_tree_fits text None k h = h
 read_tree_fits text (Some tree) k h = k
 
@@ -183,14 +209,16 @@ shown_fits kind.Timestamptz (Text text) h = moment_shown_fits text (moment_in_te
 shown_fits kind.Json (Text text) h = read_tree_fits text (tree_of text) (tree_of_fits text) (fits_up 3 61 (Text text) h)
 shown_fits _ tree h = fits_up 3 61 tree h
 
-face_fits : (fields : List Field) (col : Column) → AllOf FieldFits fields → Maybe (FitsWithin 64) (face_for fields col)
+face_fits : (fields : List Field) (col : Column) → AllOf FieldFits fields
+    → Maybe (FitsWithin 64) (face_for fields col)
 face_fits fields col a = by (tree_for fields col) (tree_fits fields col a)
   where
     by : (o : Option Json) → Maybe (FitsWithin 61) o → Maybe (FitsWithin 64) (option_map (face col.kind) o)
     by None h = tt
     by (Some tree) h = shown_fits col.kind tree h
 
-trees_fit : (t : Table) (fields : List Field) → AllOf FieldFits fields → AllOf (Maybe (FitsWithin 64)) (faces_for t fields)
+trees_fit : (t : Table) (fields : List Field) → AllOf FieldFits fields
+    → AllOf (Maybe (FitsWithin 64)) (faces_for t fields)
 trees_fit t fields a = all_map (Maybe (FitsWithin 64)) (face_for fields) t.columns (λ col. face_fits fields col a)
 
 module _ (r : Record) (f : FieldsFit r) (moment : Maybe IsUtf8 r.moment) where
@@ -214,7 +242,11 @@ module _ (r : Record) (f : FieldsFit r) (moment : Maybe IsUtf8 r.moment) where
       bound_bind (fields_fit t (used v r.columns)) _ (λ _.
       bound_bind (fields_fit t (used v r.identity)) _ (λ _.
       bound_bind (key_given v t new) (λ _. Ok (bound.Change (change_with number t r v new old))) (λ _.
-      record { moment = moment; new = trees_fit t (new_fields v r) (new_fit v); old = trees_fit t (old_fields v r) (old_fit v) }))))
+      record {
+        moment = moment;
+        new = trees_fit t (new_fields v r) (new_fit v);
+        old = trees_fit t (old_fields v r) (old_fit v);
+      }))))
 
   at_fits : (c : Catalog) (n : Option ℕ) (v : Option Verb) → BoundFits (bound_at c r n v)
   at_fits c (Some n) (Some v) = bound_fits n (table_at c n) v
@@ -229,9 +261,12 @@ line_fits : (c : Catalog) (ch : Change) → IsOfLine c ch → ChangeFits ch
 line_fits c ch b =
     let text = content_of b.line in
     let is = b.is_record in
-    let fields = record_fits (length text) is.tree (record b.entry { moment = None }) (read_fits 64 is.tree text is.is_json) is.shape in
-    given_fits b.entry (record { columns = fields.columns; identity = fields.identity }) (time_fits is.tree b.entry.moment is.time) c ch b.gives
+    let fields = record_fits (length text) is.tree (record b.entry { moment = None })
+    (read_fits 64 is.tree text is.is_json) is.shape in
+    given_fits b.entry (record { columns = fields.columns; identity = fields.identity })
+    (time_fits is.tree b.entry.moment is.time) c ch b.gives
 
 pub all_of_lines : (c : Catalog) (changes : List Change) → All (IsOfLine c) changes → AllOf ChangeFits changes
 all_of_lines c [] a = tt
-all_of_lines c (ch ∷ changes) a = (line_fits c ch (a 0 ch (omega arith)), all_of_lines c changes (λ k d lt. a (suc k) d (omega arith)))
+all_of_lines c (ch ∷ changes) a =
+    (line_fits c ch (a 0 ch (omega arith)), all_of_lines c changes (λ k d lt. a (suc k) d (omega arith)))

@@ -1,5 +1,6 @@
 -- The data of a change is readable, where the catalogue's names are UTF-8 and the change's trees were read of a line.
-use Rattle.std.proofs.Common.{ℕ, zero, suc, ◌+◌, Bool, true, false, not, ◌||◌, List, [], ◌∷◌, ◌++◌, map, Option, Some, None, refl}
+use Rattle.std.proofs.Common.{ℕ, zero, suc, ◌+◌, Bool, true, false, not, ◌||◌, List, [], ◌∷◌, ◌++◌, map, Option, Some}
+use Rattle.std.proofs.Common.{None, refl}
 use Rattle.std.specs.Prelude.{IsUtf8, codes, slice_get, unwrap_or, option_map, if◌then◌else◌}
 use Rattle.std.specs.List.{filter_map, cons_option, enumerate_from, AllByRecursion}
 use Rattle.rt_value.specs.Choice.{some_if}
@@ -16,7 +17,8 @@ use Rattle.rt_change.specs.declared.change.Verb.{Verb}
 use Rattle.rt_change.specs.declared.change.Verb.TheVariants.{Insert, Update, Delete, Truncate}
 use Rattle.rt_change.specs.declared.change.Change.{Change}
 use Rattle.rt_change.specs.Verdicts.{writes, lacks_key, hides_key}
-use Rattle.rt_change.specs.Shape.{verb_name, error_list, is_large, shown_columns, is_kept, field_of, record_of, is_key_column, old_columns, head, column_tree, records, refused, whole, shape_of}
+use Rattle.rt_change.specs.Shape.{verb_name, error_list, is_large, shown_columns, is_kept, field_of, record_of}
+use Rattle.rt_change.specs.Shape.{is_key_column, old_columns, head, column_tree, records, refused, whole, shape_of}
 use Rattle.rt_laws.proofs.Fitting.{MemberFits, null_fits, text_fits, list_fits, object_fits}
 use Rattle.rt_laws.proofs.Texts.{word}
 use Rattle.rt_laws.proofs.Incoming.{bind_of, if_of, unwrap_of}
@@ -30,7 +32,8 @@ pub record ChangeFits (ch : Change) : Type 0 where
 
 -- lists
 
-pub all_filter_map : {A C : Type 0} (B : A → Type 0) (D : C → Type 0) (f : A → Option C) (xs : List A) → ((x : A) → B x → Maybe D (f x))
+pub all_filter_map : {A C : Type 0} (B : A → Type 0) (D : C → Type 0) (f : A → Option C) (xs : List A)
+    → ((x : A) → B x → Maybe D (f x))
     → AllOf B xs → AllOf D (filter_map f xs)
 all_filter_map B D f [] k a = tt
 all_filter_map B D f (x ∷ xs) k a = by (f x) (k x a.0) (all_filter_map B D f xs k a.1)
@@ -42,7 +45,8 @@ all_filter_map B D f (x ∷ xs) k a = by (f x) (k x a.0) (all_filter_map B D f x
 abbrev Second : {A : Type 0} → (A → Type 0) → ℕ × A → Type 0
 Second B x = B x.1
 
-numbered : {A : Type 0} (B : A → Type 0) (n : ℕ) (xs : List A) → AllByRecursion B xs → AllOf (Second B) (enumerate_from n xs)
+numbered : {A : Type 0} (B : A → Type 0) (n : ℕ) (xs : List A) → AllByRecursion B xs
+    → AllOf (Second B) (enumerate_from n xs)
 numbered B n [] a = tt
 numbered B n (x ∷ xs) a = (a.0, numbered B (n + 1) xs a.1)
 
@@ -63,15 +67,18 @@ module _ (c : Catalog) (names : HasReadableNames c) where
 
     shown_named : AllOf Named (shown_columns c role max ch)
     shown_named =
-        all_filter_map Named Named (λ n. some_if (may_select c role ch.table n.0) n) (enumerate_from 0 (table_at c ch.table).columns)
+        all_filter_map Named Named (λ n. some_if (may_select c role ch.table n.0) n)
+        (enumerate_from 0 (table_at c ch.table).columns)
         (λ n h. if_of Named (may_select c role ch.table n.0) n h)
         (numbered IsReadableColumn 0 (table_at c ch.table).columns (table_readable ch.table).columns)
 
     old_named : AllOf Named (old_columns c role max ch)
     old_named =
-        all_filter_map Named Named (λ n. some_if (writes ch.verb || not (is_secured c ch.table) || is_key_column c role max ch n.0) n)
+        all_filter_map Named Named (λ n.
+        some_if (writes ch.verb || not (is_secured c ch.table) || is_key_column c role max ch n.0) n)
         (shown_columns c role max ch)
-        (λ n h. if_of Named (writes ch.verb || not (is_secured c ch.table) || is_key_column c role max ch n.0) n h) shown_named
+        (λ n h. if_of Named (writes ch.verb || not (is_secured c ch.table) || is_key_column c role max ch n.0) n h)
+        shown_named
 
     field_fits : (trees : List (Option Json)) → AllOf (Maybe (FitsWithin 64)) trees → (n : ℕ × Column) → Named n
         → Maybe (MemberFits 64) (field_of c role max ch trees n)
@@ -81,11 +88,13 @@ module _ (c : Catalog) (names : HasReadableNames c) where
         (unwrap_of (Maybe (FitsWithin 64)) (slice_get trees n.0) None (got (Maybe (FitsWithin 64)) trees n.0 a) tt)
         (λ tree fits. if_of (MemberFits 64) (is_kept c role max ch tree) (field n.1.name tree) (h.name, fits))
 
-    record_fits : (columns : List (ℕ × Column)) (trees : List (Option Json)) → AllOf Named columns → AllOf (Maybe (FitsWithin 64)) trees
+    record_fits : (columns : List (ℕ × Column)) (trees : List (Option Json)) → AllOf Named columns
+        → AllOf (Maybe (FitsWithin 64)) trees
         → FitsWithin 65 (record_of c role max ch columns trees)
     record_fits columns trees named a =
         let members = filter_map (field_of c role max ch trees) columns in
-        object_fits 64 members (all_filter_map Named (MemberFits 64) (field_of c role max ch trees) columns (field_fits trees a) named)
+        object_fits 64 members (all_filter_map Named (MemberFits 64) (field_of c role max ch trees) columns
+        (field_fits trees a) named)
 
     verb_utf8 : (v : Verb) → IsUtf8 (verb_name v)
     verb_utf8 Insert = word (codes "INSERT") refl
@@ -106,10 +115,12 @@ module _ (c : Catalog) (names : HasReadableNames c) where
           ),
         )
 
-    new_record : MemberFits 65 (field (codes "record") (record_of c role max ch (shown_columns c role max ch) ch.new_trees))
+    new_record : MemberFits 65 (field (codes "record")
+        (record_of c role max ch (shown_columns c role max ch) ch.new_trees))
     new_record = (word (codes "record") refl, record_fits (shown_columns c role max ch) ch.new_trees shown_named f.new)
 
-    old_record : MemberFits 65 (field (codes "old_record") (record_of c role max ch (old_columns c role max ch) ch.old_trees))
+    old_record : MemberFits 65 (field (codes "old_record")
+        (record_of c role max ch (old_columns c role max ch) ch.old_trees))
     old_record = (word (codes "old_record") refl, record_fits (old_columns c role max ch) ch.old_trees old_named f.old)
 
     records_fit : (v : Verb) → AllOf (MemberFits 65) (records c role max ch v)
@@ -122,7 +133,8 @@ module _ (c : Catalog) (names : HasReadableNames c) where
     refused_fits text u =
         let errors = field (codes "errors") (error_list text) ∷ [] in
         object_fits 65 (head c role max ch ++ errors)
-        (all_append (MemberFits 65) (head c role max ch) errors head_fits ((word (codes "errors") refl, error_fits text u), tt))
+        (all_append (MemberFits 65) (head c role max ch) errors head_fits
+        ((word (codes "errors") refl, error_fits text u), tt))
 
     moment_fits : (o : Option (List ℕ)) → Maybe IsUtf8 o → FitsWithin 65 (unwrap_or (option_map Text o) Null)
     moment_fits None h = null_fits 65
@@ -133,11 +145,14 @@ module _ (c : Catalog) (names : HasReadableNames c) where
         let shown = shown_columns c role max ch in
         list_fits 64 (map (column_tree c role max ch) shown)
         (all_map_of (FitsWithin 64) Named (column_tree c role max ch) shown (λ n h.
-        object_fits 63 (field (codes "name") (Text n.1.name) ∷ field (codes "type") (Text n.1.shown) ∷ [])
-        (text_member 63 (codes "name") n.1.name refl h.name, (text_member 63 (codes "type") n.1.shown refl h.shown, tt))) shown_named)
+        object_fits 63 (field (codes "name") (Text n.1.name) ∷ field (codes "type") (Text n.1.shown) ∷ []) (
+          text_member 63 (codes "name") n.1.name refl h.name,
+          (text_member 63 (codes "type") n.1.shown refl h.shown, tt),
+        )) shown_named)
 
     errors_fit : (b : Bool) → FitsWithin 65 (if b then error_list (codes "Error 413: Payload Too Large") else Null)
-    errors_fit true = error_fits (codes "Error 413: Payload Too Large") (word (codes "Error 413: Payload Too Large") refl)
+    errors_fit true = error_fits (codes "Error 413: Payload Too Large")
+        (word (codes "Error 413: Payload Too Large") refl)
     errors_fit false = null_fits 65
 
     whole_fits : FitsWithin 66 (whole c role max ch)
@@ -146,10 +161,13 @@ module _ (c : Catalog) (names : HasReadableNames c) where
         let middle = field (codes "commit_timestamp") (unwrap_or (option_map Text ch.moment) Null)
         ∷ field (codes "columns") (j.List (map (column_tree c role max ch) (shown_columns c role max ch)))
         ∷ records c role max ch ch.verb in
-        let last = field (codes "errors") (if is_large c role max ch then error_list (codes "Error 413: Payload Too Large") else Null) ∷ [] in
+        let last = field (codes "errors")
+        (if is_large c role max ch then error_list (codes "Error 413: Payload Too Large") else Null) ∷ [] in
         let fits = all_append (MemberFits 65) (front ++ middle) last
-        (all_append (MemberFits 65) front middle head_fits
-        ((word (codes "commit_timestamp") refl, moment_fits ch.moment f.moment), ((word (codes "columns") refl, columns_fit), records_fit ch.verb)))
+        (all_append (MemberFits 65) front middle head_fits (
+          (word (codes "commit_timestamp") refl, moment_fits ch.moment f.moment),
+          ((word (codes "columns") refl, columns_fit), records_fit ch.verb),
+        ))
         ((word (codes "errors") refl, errors_fit (is_large c role max ch)), tt) in
         object_fits 65 ((front ++ middle) ++ last) fits
 
@@ -160,6 +178,7 @@ module _ (c : Catalog) (names : HasReadableNames c) where
         by : (a b : Bool)
             → FitsWithin 66 (if a then refused c role max ch (codes "Error 400: Bad Request, no primary key") else
             (if b then refused c role max ch (codes "Error 401: Unauthorized") else whole c role max ch))
-        by true b = refused_fits (codes "Error 400: Bad Request, no primary key") (word (codes "Error 400: Bad Request, no primary key") refl)
+        by true b = refused_fits (codes "Error 400: Bad Request, no primary key")
+            (word (codes "Error 400: Bad Request, no primary key") refl)
         by false true = refused_fits (codes "Error 401: Unauthorized") (word (codes "Error 401: Unauthorized") refl)
         by false false = whole_fits

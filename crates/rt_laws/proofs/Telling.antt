@@ -1,5 +1,6 @@
 -- What a journal tells is readable.
-use Rattle.std.proofs.Common.{◌≡◌, ◌⊎◌, ℕ, ◌+◌, ◌<◌, ◌≤◌, Bool, true, false, List, [], ◌∷◌, ◌++◌, map, length, Option, Some, None, inl, inr, refl, sym, ap, subst, arith, length-append}
+use Rattle.std.proofs.Common.{◌≡◌, ◌⊎◌, ℕ, ◌+◌, ◌<◌, ◌≤◌, Bool, true, false, List, [], ◌∷◌, ◌++◌, map, length, Option}
+use Rattle.std.proofs.Common.{Some, None, inl, inr, refl, sym, ap, subst, arith, length-append}
 use Rattle.std.specs.Prelude.{⊤, ◌^◌, ◌==◌, Contains, nat_le, if◌then◌else◌}
 use Rattle.std.specs.List.{filter, filter_map, flat_map, AllByRecursion}
 use Rattle.rt_phx.specs.declared.message.Message.{Message}
@@ -14,18 +15,18 @@ use Rattle.rt_entry.specs.declared.story.Part.{Part}
 use Rattle.rt_entry.specs.declared.story.Part.TheVariants.{Opens, Ends, Tells, Joins, Renews, Tracks, Untracks, Departs}
 use Rattle.rt_entry.specs.declared.answer.Answer.{Answer}
 use Rattle.rt_entry.specs.declared.answer.Answer.TheVariants as a
-use Rattle.rt_entry.specs.Story.{Now, now_of, joined_by, is_last, standing_tracks, all_tracks, members_at, joined, present_at, ids_given, tables_left, renewed_by, first_or}
+use Rattle.rt_entry.specs.Story.{Now, now_of, joined_by, is_last, standing_tracks, all_tracks, members_at, joined}
+use Rattle.rt_entry.specs.Story.{present_at, ids_given, tables_left, renewed_by, first_or}
 use Rattle.rt_entry.specs.Doings.{story}
 use Rattle.rt_entry.specs.Answers.{answer_of, at_slot, told, answers_by, answers}
 use Rattle.rt_entry.specs.Presence.{said_by, said_since}
-use Rattle.rt_laws.specs.After.{joins_of, remains, renewed, new_member, tracks_in, outlasts, after, done_by}
+use Rattle.rt_entry.specs.After.{joins_of, remains, renewed, new_member, tracks_in, outlasts, after, done_by}
 use Rattle.rt_entry.specs.Readable.{payload_levels, IsReadable}
 use Rattle.rt_value.proofs.Among.{from_contains}
-use Rattle.rt_laws.proofs.Clients.{story_length}
 use Rattle.rt_value.proofs.Plain.{AllOf, all_among, all_append, all_map_of, all_filter, Maybe}
 use Rattle.rt_entry.specs.declared.story.Standing.{Standing}
-use Rattle.rt_laws.proofs.Journals.{line_of, shape_next, story_shaped, story_grows}
-use Rattle.rt_laws.proofs.Sound.{joins_well}
+use Rattle.rt_entry.proofs.Journals.{line_of, shape_next, story_shaped, story_grows, story_length}
+use Rattle.rt_entry.proofs.Sound.{joins_well}
 use Rattle.rt_laws.proofs.Outgoing.{StandingFits, ChannelFits, TrackFits}
 use Rattle.rt_laws.proofs.Shaping.{all_filter_map}
 use Rattle.rt_laws.proofs.Accepting.{NowFits}
@@ -64,7 +65,8 @@ standing_fit : (xs : List (ℕ × Option Track)) → AllOf EntryFits xs → AllO
 standing_fit [] a = tt
 standing_fit ((k, None) ∷ xs) a = standing_fit xs a.1
 standing_fit ((k, Some t) ∷ xs) a =
-    elim (is_last k xs) as (λ b. AllOf TrackFits (elim b [ true ↦ t ∷ standing_tracks xs | false ↦ standing_tracks xs ]))
+    elim (is_last k xs) as (λ b. AllOf TrackFits
+    (elim b [ true ↦ t ∷ standing_tracks xs | false ↦ standing_tracks xs ]))
     [ true ↦ (a.0, standing_fit xs a.1) | false ↦ standing_fit xs a.1 ]
 
 few_more : (js : List Channel) → ((length js ≡ 0) ⊎ (length js ≡ 1)) → AllOf ChannelFits js
@@ -95,9 +97,11 @@ first_fits x (y ∷ ys) f a = a.0
 renewed_fits : (ps : List Part) (h : Member) → AllOf PartFits ps → CanBeDenied h → CanBeDenied (renewed ps h)
 renewed_fits ps h a f =
     let n = h.channel.number in
-    first_fits h.standing (filter_map (renewed_by n) ps) f (all_filter_map PartFits StandingFits (renewed_by n) ps (renewal_fits n) a)
+    first_fits h.standing (filter_map (renewed_by n) ps) f
+    (all_filter_map PartFits StandingFits (renewed_by n) ps (renewal_fits n) a)
 
-after_fits : (now : Now) (i : Input) (ps : List Part) → NowFits now → AllOf PartFits ps → ((length (joins_of ps) ≡ 0) ⊎ (length (joins_of ps) ≡ 1))
+after_fits : (now : Now) (i : Input) (ps : List Part) → NowFits now → AllOf PartFits ps
+    → ((length (joins_of ps) ≡ 0) ⊎ (length (joins_of ps) ≡ 1))
     → now.number + 1 < 2 ^ 64
     → NowFits (after now i ps)
 unfolding after
@@ -111,8 +115,10 @@ after_fits now i ps f a one short =
           (all_map_of HeldFits HeldFits (renewed ps) (filter (remains ps) now.members) (λ h k. k)
           (all_filter HeldFits (remains ps) now.members f.members))
           (all_map_of HeldFits ChannelFits new_member (joins_of ps) (λ ch k. k) (joins_fit ps a));
-      standings = all_append CanBeDenied (map (renewed ps) (filter (remains ps) now.members)) (map new_member (joins_of ps))
-          (all_map_of CanBeDenied CanBeDenied (renewed ps) (filter (remains ps) now.members) (λ h k. renewed_fits ps h a k)
+      standings = all_append CanBeDenied (map (renewed ps) (filter (remains ps) now.members))
+          (map new_member (joins_of ps))
+          (all_map_of CanBeDenied CanBeDenied (renewed ps) (filter (remains ps) now.members)
+          (λ h k. renewed_fits ps h a k)
           (all_filter CanBeDenied (remains ps) now.members f.standings))
           (all_map_of CanBeDenied ChannelFits new_member (joins_of ps) (λ ch k. k.standing) (joins_fit ps a));
       tracks = all_append TrackFits (filter (outlasts ps) now.tracks) (standing_tracks (tracks_in ps))
@@ -156,10 +162,12 @@ said_is (a.Opened version) h = tt
 said_is (a.Ended name) h = tt
 
 module _ (c : Catalog) (s : Settings) (names : HasReadableNames c) where
-  done_fit : (journal : List Input) (i : Input) → NowFits (now_of (story c s journal)) → InputFits i → AllOf PartFits (done_by c s journal i)
+  done_fit : (journal : List Input) (i : Input) → NowFits (now_of (story c s journal)) → InputFits i
+      → AllOf PartFits (done_by c s journal i)
   done_fit journal i f h = doings_fit (now_of (story c s journal)) f c s names (tables_left c (story c s journal) i) i h
 
-  joined_once : (journal : List Input) (i : Input) → (length (joins_of (done_by c s journal i)) ≡ 0) ⊎ (length (joins_of (done_by c s journal i)) ≡ 1)
+  joined_once : (journal : List Input) (i : Input) → (length (joins_of (done_by c s journal i)) ≡ 0)
+      ⊎ (length (joins_of (done_by c s journal i)) ≡ 1)
   joined_once journal i = (joins_well (line_of c s journal i) (story c s journal)
       (shape_next c s (story c s journal) i (story_shaped c s journal), story_shaped c s journal)).one
 
@@ -171,14 +179,16 @@ module _ (c : Catalog) (s : Settings) (names : HasReadableNames c) where
   unfolding story
   no_story = refl
 
-  pub now_fits : (journal : List Input) → length journal < 2 ^ 64 → AllOf InputFits journal → NowFits (now_of (story c s journal))
+  pub now_fits : (journal : List Input) → length journal < 2 ^ 64 → AllOf InputFits journal
+      → NowFits (now_of (story c s journal))
   now_fits [] short a = let P : Now → Type 0 = NowFits in subst P (ap now_of (sym no_story)) none_fits
   now_fits (i ∷ before) short a =
       let st = story c s before in
       let f = now_fits before (omega arith) a.1 in
       let n = numbered before in
       let one = joined_once before i in
-      subst NowFits (sym (story_grows c s before i)) (after_fits (now_of st) i (done_by c s before i) f (done_fit before i f a.0) one (omega arith))
+      subst NowFits (sym (story_grows c s before i))
+      (after_fits (now_of st) i (done_by c s before i) f (done_fit before i f a.0) one (omega arith))
 
   answers_fit : (journal : List Input) (i : Input) → length journal < 2 ^ 64 → AllOf InputFits journal → InputFits i
       → AllOf AnswerFits (answers c s journal i)
@@ -186,14 +196,17 @@ module _ (c : Catalog) (s : Settings) (names : HasReadableNames c) where
   answers_fit journal i short f h = all_filter_map PartFits AnswerFits answer_of (done_by c s journal i) part_says
       (done_fit journal i (now_fits journal short f) h)
 
-  pub answer_fits : (journal : List Input) (i : Input) (slot : ℕ) (m : Message) → length journal < 2 ^ 64 → AllOf InputFits (i ∷ journal)
+  pub answer_fits : (journal : List Input) (i : Input) (slot : ℕ) (m : Message) → length journal < 2 ^ 64
+      → AllOf InputFits (i ∷ journal)
       → Contains (answers c s journal i) (slot, a.Says m) → IsReadable payload_levels m
   answer_fits journal i slot m short f there =
       let given = answers c s journal i in
-      all_among AnswerFits given (slot, a.Says m) (answers_fit journal i short f.1 f.0) (from_contains given (slot, a.Says m) there)
+      all_among AnswerFits given (slot, a.Says m) (answers_fit journal i short f.1 f.0)
+      (from_contains given (slot, a.Says m) there)
 
   -- what a slot is told
-  told_fits : (journal : List Input) (i : Input) (slot : ℕ) → length journal < 2 ^ 64 → AllOf InputFits journal → InputFits i
+  told_fits : (journal : List Input) (i : Input) (slot : ℕ) → length journal < 2 ^ 64 → AllOf InputFits journal
+      → InputFits i
       → AllOf (IsReadable 67) (filter_map said_by (told slot (answers c s journal i)))
   unfolding told
   told_fits journal i slot short f h =
@@ -210,6 +223,7 @@ module _ (c : Catalog) (s : Settings) (names : HasReadableNames c) where
           → AllByRecursion (IsReadable 67) (elim b as (λ t. List Message)
           [ true ↦ said_since c s ch before ++ filter_map said_by (told ch.slot (answers c s before i)) | false ↦ [] ])
       by true more =
-          all_append (IsReadable 67) (said_since c s ch before) (filter_map said_by (told ch.slot (answers c s before i))) more
+          all_append (IsReadable 67) (said_since c s ch before)
+          (filter_map said_by (told ch.slot (answers c s before i))) more
           (told_fits before i ch.slot (omega arith) a.1 a.0)
       by false more = tt

@@ -37,7 +37,8 @@ told_parts_append slot ps qs =
     ap (filter_map (at_slot slot)) (filter_map-append answer_of ps qs)
     ∙ filter_map-append (at_slot slot) (filter_map answer_of ps) (filter_map answer_of qs)
 
-pub leads_then : (slot : ℕ) (b d e : Bool) (ps qs : List Part) → Leads slot b ps d → Leads slot d qs e → Leads slot b (ps ++ qs) e
+pub leads_then : (slot : ℕ) (b d e : Bool) (ps qs : List Part) → Leads slot b ps d → Leads slot d qs e
+    → Leads slot b (ps ++ qs) e
 leads_then slot b d e ps qs f g =
     ap (left_open b) (told_parts_append slot ps qs) ∙ left_append b (told_by slot ps) (told_by slot qs)
     ∙ ap (λ (o : Option Bool). o >>= λ n. left_open n (told_by slot qs)) f ∙ g
@@ -66,8 +67,10 @@ said true false m rest f h = absurd (let k : false ≡ true = f refl in cc)
 
 pub mild_leads : (slot : ℕ) (b : Bool) (ps : List Part) → AllOf (Mild slot b) ps → Leads slot b ps b
 mild_leads slot b [] h = refl
-mild_leads slot b (Opens s o ∷ ps) h = passed (s == slot) b b (a.Opened o.version) (told_by slot ps) h.0 (mild_leads slot b ps h.1)
-mild_leads slot b (Ends s name ∷ ps) h = passed (s == slot) b b (a.Ended name) (told_by slot ps) h.0 (mild_leads slot b ps h.1)
+mild_leads slot b (Opens s o ∷ ps) h =
+    passed (s == slot) b b (a.Opened o.version) (told_by slot ps) h.0 (mild_leads slot b ps h.1)
+mild_leads slot b (Ends s name ∷ ps) h =
+    passed (s == slot) b b (a.Ended name) (told_by slot ps) h.0 (mild_leads slot b ps h.1)
 mild_leads slot b (Tells s m ∷ ps) h = said (s == slot) b m (told_by slot ps) h.0 (mild_leads slot b ps h.1)
 mild_leads slot b (Joins c ∷ ps) h = mild_leads slot b ps h.1
 mild_leads slot b (Renews k x ∷ ps) h = mild_leads slot b ps h.1
@@ -85,7 +88,8 @@ ended_case : (t d : Bool) (name : EndName) (rest : List Answer) → t ≡ true �
 ended_case true d name rest e h = h
 ended_case false d name rest e h = absurd (cc)
 
-pub opens_leads : (slot n : ℕ) (d : Bool) (o : Opening) (ps : List Part) → (n == slot) ≡ true → Leads slot true ps d → Leads slot false (Opens n o ∷ ps) d
+pub opens_leads : (slot n : ℕ) (d : Bool) (o : Opening) (ps : List Part) → (n == slot) ≡ true → Leads slot true ps d
+    → Leads slot false (Opens n o ∷ ps) d
 opens_leads slot n d o ps e h = opened_case (n == slot) d o.version (told_by slot ps) e h
 
 pub ends_leads : (slot n : ℕ) (d : Bool) (name : EndName) (ps : List Part) → (n == slot) ≡ true → Leads slot false ps d
@@ -95,24 +99,29 @@ ends_leads slot n d name ps e h = ended_case (n == slot) d name (told_by slot ps
 -- what parts lead to is what is open behind them
 
 abbrev Follows : ℕ → Bool → List Part → Type 0
-Follows slot d ps = (b : Bool) (old : Option Opening) → is_there old ≡ b → Leads slot b ps d → is_there (opened_after slot ps old) ≡ d
+Follows slot d ps = (b : Bool) (old : Option Opening) → is_there old ≡ b → Leads slot b ps d
+    → is_there (opened_after slot ps old) ≡ d
 
-open_here : (t b d : Bool) (slot : ℕ) (o : Opening) (ps : List Part) (old : Option Opening) → Follows slot d ps → is_there old ≡ b
+open_here : (t b d : Bool) (slot : ℕ) (o : Opening) (ps : List Part) (old : Option Opening) → Follows slot d ps
+    → is_there old ≡ b
     → left_open b (cons_option (if t then Some (a.Opened o.version) else None) (told_by slot ps)) ≡ Some d
     → is_there (opened_after slot ps (if t then Some o else old)) ≡ d
 open_here true false d slot o ps old next e h = next true (Some o) refl h
 open_here true true d slot o ps old next e h = absurd (cc)
 open_here false b d slot o ps old next e h = next b old e h
 
-end_here : (t b d : Bool) (slot : ℕ) (name : EndName) (ps : List Part) (old : Option Opening) → Follows slot d ps → is_there old ≡ b
+end_here : (t b d : Bool) (slot : ℕ) (name : EndName) (ps : List Part) (old : Option Opening) → Follows slot d ps
+    → is_there old ≡ b
     → left_open b (cons_option (if t then Some (a.Ended name) else None) (told_by slot ps)) ≡ Some d
     → is_there (opened_after slot ps (if t then None else old)) ≡ d
 end_here true true d slot name ps old next e h = next false None refl h
 end_here true false d slot name ps old next e h = absurd (cc)
 end_here false b d slot name ps old next e h = next b old e h
 
-tell_here : (t b d : Bool) (slot : ℕ) (m : Message) (ps : List Part) (old : Option Opening) → Follows slot d ps → is_there old ≡ b
-    → left_open b (cons_option (if t then Some (a.Says m) else None) (told_by slot ps)) ≡ Some d → is_there (opened_after slot ps old) ≡ d
+tell_here : (t b d : Bool) (slot : ℕ) (m : Message) (ps : List Part) (old : Option Opening) → Follows slot d ps
+    → is_there old ≡ b
+    → left_open b (cons_option (if t then Some (a.Says m) else None) (told_by slot ps)) ≡ Some d
+    → is_there (opened_after slot ps old) ≡ d
 tell_here true true d slot m ps old next e h = next true old e h
 tell_here true false d slot m ps old next e h = absurd (cc)
 tell_here false b d slot m ps old next e h = next b old e h
@@ -123,7 +132,8 @@ same_state b d e = cc
 pub state_follows : (slot : ℕ) (d : Bool) (ps : List Part) → Follows slot d ps
 state_follows slot d [] b old e h = e ∙ same_state b d h
 state_follows slot d (Opens s o ∷ ps) b old e h = open_here (s == slot) b d slot o ps old (state_follows slot d ps) e h
-state_follows slot d (Ends s name ∷ ps) b old e h = end_here (s == slot) b d slot name ps old (state_follows slot d ps) e h
+state_follows slot d (Ends s name ∷ ps) b old e h =
+    end_here (s == slot) b d slot name ps old (state_follows slot d ps) e h
 state_follows slot d (Tells s m ∷ ps) b old e h = tell_here (s == slot) b d slot m ps old (state_follows slot d ps) e h
 state_follows slot d (Joins c ∷ ps) b old e h = state_follows slot d ps b old e h
 state_follows slot d (Renews k x ∷ ps) b old e h = state_follows slot d ps b old e h

@@ -8,7 +8,8 @@ use Rattle.rt_entry.specs.declared.input.Settings.{Settings}
 use Rattle.rt_entry.specs.declared.input.Step.{Step}
 use Rattle.rt_entry.specs.declared.answer.Item.{Item}
 use Rattle.rt_entry.specs.declared.answer.Item.TheVariants.{Message, End}
-use Rattle.rt_entry.specs.Machine.{Slot, World, Placed, start, with_slot, with_given, with_cut, outbox, messages_in, is_full_for, run}
+use Rattle.rt_entry.specs.Machine.{Slot, World, Placed, start, with_slot, with_given, with_cut, outbox, messages_in}
+use Rattle.rt_entry.specs.Machine.{is_full_for, run}
 use Rattle.rt_laws.proofs.Good.{with_all}
 use Rattle.rt_laws.proofs.Stepping.{Keeps, one_popped, run_keeps}
 use Rattle.rt_laws.proofs.Lists.{drop_none}
@@ -18,7 +19,8 @@ use Rattle.rt_laws.proofs.Lists.{drop_none}
 both : (xs ys : List Item) → messages_in (xs ++ ys) ≡ messages_in xs + messages_in ys
 both xs ys = sum_by-append _ xs ys
 
-one_more : (n : ℕ) (xs : List Item) (x : Item) → messages_in (drop n (xs ++ x ∷ [])) ≤ messages_in (drop n xs) + messages_in (x ∷ [])
+one_more : (n : ℕ) (xs : List Item) (x : Item)
+    → messages_in (drop n (xs ++ x ∷ [])) ≤ messages_in (drop n xs) + messages_in (x ∷ [])
 one_more zero xs x = let e = both xs (x ∷ []) in omega arith
 one_more (suc n) [] x = let e = ap messages_in (drop_none {A = Item} n) in omega arith
 one_more (suc n) (y ∷ xs) x = one_more n xs x
@@ -36,9 +38,11 @@ module _ (c : Catalog) (s : Settings) where
   given_fits : (x : Slot) (p : Placed) → Fits x → is_full_for c s x p.item ≡ false → Fits (with_given x p)
   given_fits x p h room = by p.item (one_more x.popped x.given p.item) room
     where
-      by : (i : Item) → messages_in (drop x.popped (x.given ++ p.item ∷ [])) ≤ messages_in (outbox x) + messages_in (i ∷ [])
+      by : (i : Item) → messages_in (drop x.popped (x.given ++ p.item ∷ [])) ≤ messages_in (outbox x)
+          + messages_in (i ∷ [])
           → is_full_for c s x i ≡ false → Fits (with_given x p)
-      by (Message bytes) le e = let few : messages_in (outbox x) + 1 ≤ s.capacity = grind (arith, nat_tests) in omega arith
+      by (Message bytes) le e = let few : messages_in (outbox x) + 1 ≤ s.capacity = grind (arith, nat_tests) in
+          omega arith
       by (End name) le e = omega arith
 
   cut_fits : (x : Slot) (p : Placed) → Fits x → Fits (with_cut x p)
@@ -61,12 +65,14 @@ module _ (c : Catalog) (s : Settings) where
     journal = λ w i h room. h;
     sent = λ w l h more. h;
     worked = λ w l h more. h;
-    given = λ w slot p ps h e room. slot_fits w slot (with_given (w.slots slot) p) h (given_fits (w.slots slot) p (h slot) room);
+    given = λ w slot p ps h e room. slot_fits w slot (with_given (w.slots slot) p) h
+        (given_fits (w.slots slot) p (h slot) room);
     cut = λ w slot p ps h e full. slot_fits w slot (with_cut (w.slots slot) p) h (cut_fits (w.slots slot) p (h slot));
     popped = λ w slot h. slot_fits w slot (one_popped (w.slots slot)) h (popped_fits (w.slots slot) (h slot));
   }
 
-  pub outboxes_within : (steps : List Step) (slot : ℕ) → messages_in (outbox ((run c s steps start).slots slot)) ≤ s.capacity
+  pub outboxes_within : (steps : List Step) (slot : ℕ)
+      → messages_in (outbox ((run c s steps start).slots slot)) ≤ s.capacity
   outboxes_within steps = run_keeps c s AllFit outboxes_keep steps start (λ slot. omega arith)
 
   -- what the journal took

@@ -18,34 +18,37 @@ use Rattle.rt_entry.specs.Messages.{change_message}
 use Rattle.rt_entry.specs.Doings.{story, subscriptions, view_of, gets, change_parts_to_all}
 use Rattle.rt_entry.specs.Answers.{Answers, answer_of, answers}
 use Rattle.rt_entry.specs.Audit.{Judged, judged_input}
-use Rattle.rt_laws.specs.Ids.{RiseWithin}
-use Rattle.rt_laws.specs.Members.{members_of_journal}
+use Rattle.rt_entry.specs.Ids.{subscribed, judged_on, told_ids}
+use Rattle.rt_entry.specs.Members.{members_of_journal}
 
 module _ (c : Catalog) (s : Settings) (before : List Input) (changes : List Change) where
-  -- the subscriptions that stand before a poll, and the tables at its end
-  abbrev pub subscribed : List Subscription
-  subscribed = subscriptions (members_of_journal c s before)
+  abbrev subs : List Subscription
+  subs = subscribed c s before
 
-  abbrev pub judged_on : List (List Row)
-  judged_on = tables_left c (story c s before) (Poll changes)
+  abbrev tables : List (List Row)
+  tables = judged_on c s before changes
+
+  abbrev ids : Change → ChannelView → List ℕ
+  ids ch to = told_ids c s before changes ch to
 
   -- what one change of the poll gives
   abbrev pub change_answers : Change → Answers
-  change_answers ch = filter_map answer_of (change_parts_to_all c s subscribed judged_on (map view_of (members_of_journal c s before)) ch)
-
-  -- the ids with which a channel is told of it
-  abbrev pub told_ids : Change → ChannelView → List ℕ
-  told_ids ch to = map (λ x. x.id) (filter (gets c s judged_on ch to.channel) subscribed)
+  change_answers ch = filter_map answer_of
+      (change_parts_to_all c s subs tables (map view_of (members_of_journal c s before)) ch)
 
   -- the change gives a message to a member, and the id is one of its ids
   pub record IsTold (ch : Change) (id : ℕ) : Type 0 where
     pub member : Member
     pub known : Contains (members_of_journal c s before) member
-    pub among : Contains (told_ids ch (view_of member)) id
-    pub said : Contains (change_answers ch)
-        (member.channel.slot, Says (change_message (view_of member) (told_ids ch (view_of member)) (shape_of c member.standing.role s.max_record ch)))
+    pub among : Contains (ids ch (view_of member)) id
+    pub said : Contains (change_answers ch) (
+      member.channel.slot,
+      Says (change_message (view_of member) (ids ch (view_of member))
+          (shape_of c member.standing.role s.max_record ch)),
+    )
 
-  -- the change at the place of the line, which is told to the line's subscription exactly where its verdict is no denial
+  -- the change at the place of the line, which is told to the line's subscription exactly where its verdict is no
+  -- denial
   pub record IsDecided (j : Judged) : Type 0 where
     pub change : Change
     pub at : Contains (enumerate_from 0 changes) (j.place, change)
@@ -54,14 +57,10 @@ module _ (c : Catalog) (s : Settings) (before : List Input) (changes : List Chan
 module _ (c : Catalog) (s : Settings) where
   -- every verdict of a poll
   abbrev pub AuditDecides : Type 0
-  AuditDecides = (before : List Input) (changes : List Change) (j : Judged) → Contains (judged_input c s before (Poll changes)) j → IsDecided c s before changes j
+  AuditDecides = (before : List Input) (changes : List Change) (j : Judged)
+      → Contains (judged_input c s before (Poll changes)) j → IsDecided c s before changes j
 
   -- a poll gives what its changes give, one after another
   abbrev pub PollsAreChanges : Type 0
-  PollsAreChanges = (before : List Input) (changes : List Change) → answers c s before (Poll changes) ≡ flat_map (change_answers c s before changes) changes
-
-  -- a channel is told of a change with ids that rise
-  abbrev pub ToldIdsRise : Type 0
-  ToldIdsRise =
-      (before : List Input) (changes : List Change) (ch : Change) (to : ChannelView)
-      → RiseWithin 1 (told_ids c s before changes ch to) (suc (now_of (story c s before)).ids)
+  PollsAreChanges = (before : List Input) (changes : List Change)
+      → answers c s before (Poll changes) ≡ flat_map (change_answers c s before changes) changes

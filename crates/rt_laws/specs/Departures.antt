@@ -16,6 +16,7 @@ use Rattle.rt_entry.specs.Messages.{presence_diff}
 use Rattle.rt_entry.specs.Doings.{story, opening_in, channels_of, track_of}
 use Rattle.rt_entry.specs.Answers.{answers}
 use Rattle.rt_entry.specs.Presence.{said_to}
+use Rattle.rt_entry.specs.After.{found_by}
 
 -- the difference by which a channel is told of a track that leaves its topic
 abbrev pub leave_for : Channel → Option Track → List Message
@@ -23,18 +24,17 @@ leave_for ch None = []
 leave_for ch (Some t) = elim (bytes_eq ch.topic t.topic) [ true ↦ presence_diff ch [] (t ∷ []) ∷ [] | false ↦ [] ]
 
 module _ (c : Catalog) (s : Settings) where
-  abbrev pub found_by : List Input → Now
-  found_by journal = now_of (story c s journal)
-
   -- what an input says to a channel
   abbrev pub heard : List Input → Input → Channel → List Message
   heard journal i ch = filter_map (said_to ch) (answers c s journal i)
 
-  -- each member of another slot with presence enabled hears one difference for every channel of the slot that tracked on its topic, in join order
+  -- each member of another slot with presence enabled hears one difference for every channel of the slot that tracked
+  -- on its topic, in join order
   abbrev pub DeparturesAreTold : Type 0
   DeparturesAreTold =
       (journal : List Input) (slot : ℕ) (o : Opening) (h : Member)
-      → opening_in (found_by journal) slot ≡ Some o
-      → Contains (found_by journal).members h → h.channel.presence ≡ true → h.channel.slot ≢ slot
+      → opening_in (found_by c s journal) slot ≡ Some o
+      → Contains (found_by c s journal).members h → h.channel.presence ≡ true → h.channel.slot ≢ slot
       → heard journal (Gone slot) h.channel
-      ≡ flat_map (λ g. leave_for h.channel (track_of (found_by journal) g.channel.number)) (channels_of (found_by journal) slot)
+      ≡ flat_map (λ g. leave_for h.channel (track_of (found_by c s journal) g.channel.number))
+      (channels_of (found_by c s journal) slot)

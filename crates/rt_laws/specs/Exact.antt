@@ -1,5 +1,5 @@
--- The exact forms of laws on lanes, cuts and messages of changes: what comes, and not only that something does.
-use Rattle.std.specs.Prelude.{◌≡◌, ◌≢◌, ℕ, List, [], ◌∷◌, ◌++◌, map, codes, Contains}
+-- Who tells changes, and the push that put a cut there.
+use Rattle.std.specs.Prelude.{◌≡◌, ◌≢◌, ℕ, List, [], ◌∷◌, ◌++◌, codes, Contains}
 use Rattle.rt_phx.specs.declared.message.Message.{Message}
 use Rattle.rt_catalog.specs.declared.catalog.Catalog.{Catalog}
 use Rattle.rt_change.specs.declared.change.Change.{Change}
@@ -9,23 +9,10 @@ use Rattle.rt_entry.specs.declared.input.Settings.{Settings}
 use Rattle.rt_entry.specs.declared.input.Step.{Step}
 use Rattle.rt_entry.specs.declared.input.Step.TheVariants.{Push}
 use Rattle.rt_entry.specs.declared.answer.Answer.TheVariants.{Says}
-use Rattle.rt_entry.specs.Answers.{answers, lane_marks, marks_of, entry_of}
+use Rattle.rt_entry.specs.Answers.{answers}
 use Rattle.rt_entry.specs.Machine.{Cut, Slot, start, run, outbox, messages_in}
 
 module _ (c : Catalog) (s : Settings) where
-  -- an input more: its marks come behind a lane's, and nothing else changes
-  abbrev pub MarksGrow : Type 0
-  MarksGrow =
-      (before : List Input) (i : Input) (lane : ℕ)
-      → lane_marks c s (i ∷ before) lane ≡ lane_marks c s before lane ++ marks_of c s lane before i
-
-  -- and so their entries
-  abbrev pub EntriesGrow : Type 0
-  EntriesGrow =
-      (before : List Input) (i : Input) (lane : ℕ)
-      → map (entry_of c s) (lane_marks c s (i ∷ before) lane)
-      ≡ map (entry_of c s) (lane_marks c s before lane) ++ map (entry_of c s) (marks_of c s lane before i)
-
   -- an input that is no poll says no message of the event of changes
   abbrev pub OnlyPollsTellChanges : Type 0
   OnlyPollsTellChanges =

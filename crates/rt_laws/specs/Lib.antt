@@ -1,15 +1,10 @@
-pub mod After
 pub mod Audited
 pub mod Changes
 pub mod Departures
 pub mod Exact
-pub mod Fan
 pub mod Follows
-pub mod Ids
-pub mod Members
 pub mod Openings
 pub mod Private
 pub mod Served
 pub mod Told
-pub mod Tracks
 pub mod Views

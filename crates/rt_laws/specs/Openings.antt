@@ -11,7 +11,8 @@ use Rattle.rt_entry.specs.Story.{is_stopped, opening_at, slot_count}
 use Rattle.rt_entry.specs.Doings.{story}
 use Rattle.rt_entry.specs.Answers.{told, all_answers}
 
--- whether a slot is open behind an answer, where that may come: a mark where it isn't open, a message or a terminator where it is
+-- whether a slot is open behind an answer, where that may come: a mark where it isn't open, a message or a terminator
+-- where it is
 abbrev pub turned : Bool → Answer → Option Bool
 turned false (Opened version) = Some true
 turned true (Says m) = Some true
@@ -28,8 +29,8 @@ is_there None = false
 is_there (Some o) = true
 
 module _ (c : Catalog) (s : Settings) where
-  -- what a slot is told begins each opening with its mark and ends it with its terminator, says nothing between openings, and leaves open what the story
-  -- has open
+  -- what a slot is told begins each opening with its mark and ends it with its terminator, says nothing between
+  -- openings, and leaves open what the story has open
   abbrev pub OpeningsAreWhole : Type 0
   OpeningsAreWhole =
       (journal : List Input) (slot : ℕ) → slot < slot_count
@@ -38,4 +39,5 @@ module _ (c : Catalog) (s : Settings) where
   -- behind a stop no slot is open
   abbrev pub StoppedIsShut : Type 0
   StoppedIsShut =
-      (journal : List Input) (slot : ℕ) → is_stopped (story c s journal) ≡ true → slot < slot_count → opening_at (story c s journal) slot ≡ None
+      (journal : List Input) (slot : ℕ) → is_stopped (story c s journal) ≡ true → slot < slot_count
+      → opening_at (story c s journal) slot ≡ None

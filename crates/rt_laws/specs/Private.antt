@@ -1,4 +1,5 @@
--- Private channels: who joined, renewed, sent and tracked had the right to it, by the policies of `realtime.messages` when it was judged.
+-- Private channels: who joined, renewed, sent and tracked had the right to it, by the policies of `realtime.messages`
+-- when it was judged.
 use Rattle.std.specs.Prelude.{◌≡◌, ◌⊎◌, ℕ, true, List, [], ◌∷◌, ◌++◌, codes, Some, None, Ok, Contains}
 use Rattle.std.specs.Str.{bytes_eq}
 use Rattle.rt_value.specs.declared.claims.Claims.{Claims}
@@ -27,12 +28,12 @@ use Rattle.rt_entry.specs.Joining.{denied}
 use Rattle.rt_entry.specs.Story.{Now, now_of, tables_left}
 use Rattle.rt_entry.specs.Doings.{story, may_post}
 use Rattle.rt_entry.specs.Answers.{answers}
-use Rattle.rt_laws.specs.After.{done_by}
-use Rattle.rt_laws.specs.Members.{members_of_journal}
+use Rattle.rt_entry.specs.After.{done_by, found_by}
+use Rattle.rt_entry.specs.Members.{members_of_journal}
 
 module _ (c : Catalog) where
-  -- By the rows of the tables: the role is that of the claims, which may join the topic; and a broadcast and a track are denied exactly where their
-  -- rights aren't given, with the same reason.
+  -- By the rows of the tables: the role is that of the claims, which may join the topic; and a broadcast and a track
+  -- are denied exactly where their rights aren't given, with the same reason.
   pub record IsJudged (tables : List (List Row)) (topic : List ℕ) (x : Standing) : Type 0 where
     pub role : role_for c x.claims ≡ Ok x.role
     pub join : denied c tables x.role x.claims (name_in topic) private.join ≡ None
@@ -45,8 +46,10 @@ module _ (c : Catalog) where
     pub presence : ch.presence ≡ true
         → denied c tables ch.standing.role ch.standing.claims (name_in ch.topic) private.presence ≡ None
 
-  -- a reason is told exactly where there is a messages table by whose policies the right isn't given, and then it says why
-  pub record IsReason (rows : ℕ → List Row) (role : ℕ) (claims : Claims) (name : List ℕ) (use_ : Use) (why : List ℕ) : Type 0 where
+  -- a reason is told exactly where there is a messages table by whose policies the right isn't given, and then it says
+  -- why
+  pub record IsReason (rows : ℕ → List Row) (role : ℕ) (claims : Claims) (name : List ℕ) (use_ : Use)
+      (why : List ℕ) : Type 0 where
     pub messages : Messages
     pub known : messages_of c ≡ Some messages
     pub told : denial_text c messages (right c rows messages role claims name use_) ≡ Some why
@@ -65,13 +68,11 @@ module _ (c : Catalog) where
   abbrev pub NothingIsDenied : Type 0
   NothingIsDenied =
       messages_of c ≡ None
-      → (rows : ℕ → List Row) (role : ℕ) (claims : Claims) (name : List ℕ) (use_ : Use) → denial c rows role claims name use_ ≡ None
+      → (rows : ℕ → List Row) (role : ℕ) (claims : Claims) (name : List ℕ) (use_ : Use)
+      → denial c rows role claims name use_ ≡ None
 
 module _ (c : Catalog) (s : Settings) where
-  -- what an input behind a journal finds, and the tables that it is judged on
-  abbrev pub found_by : List Input → Now
-  found_by journal = now_of (story c s journal)
-
+  -- the tables that an input behind a journal is judged on
   abbrev pub tables_by : List Input → Input → List (List Row)
   tables_by journal i = tables_left c (story c s journal) i
 
@@ -79,16 +80,19 @@ module _ (c : Catalog) (s : Settings) where
   abbrev pub PostsRunOut : Type 0
   PostsRunOut =
       (before : List Input) (slot : ℕ) (claims : Claims) (messages : List Posting)
-      → is_expired (seconds_of (found_by before).moment) claims.exp ≡ true → answers c s before (Post slot claims messages) ≡ []
+      → is_expired (seconds_of (found_by c s before).moment) claims.exp ≡ true
+      → answers c s before (Post slot claims messages) ≡ []
 
   -- without a messages table every message may be posted
   abbrev pub EachIsPosted : Type 0
   EachIsPosted =
-      messages_of c ≡ None → (now : Now) (tables : List (List Row)) (claims : Claims) (p : Posting) → may_post c s now tables claims p ≡ true
+      messages_of c ≡ None → (now : Now) (tables : List (List Row)) (claims : Claims) (p : Posting)
+      → may_post c s now tables claims p ≡ true
 
   abbrev pub JoinsAreJudged : Type 0
   JoinsAreJudged =
-      (before : List Input) (i : Input) (ch : Channel) → Contains (done_by c s before i) (Joins ch) → IsAdmitted c (tables_by before i) ch
+      (before : List Input) (i : Input) (ch : Channel) → Contains (done_by c s before i) (Joins ch)
+      → IsAdmitted c (tables_by before i) ch
 
   -- the member of that number was judged anew on its topic
   pub record IsRenewal (before : List Input) (i : Input) (number : ℕ) (x : Standing) : Type 0 where
@@ -102,7 +106,8 @@ module _ (c : Catalog) (s : Settings) where
       (before : List Input) (i : Input) (number : ℕ) (x : Standing)
       → Contains (done_by c s before i) (Renews number x) → IsRenewal before i number x
 
-  -- an input of the journal made the channel join with the standing that the member has, or renewed it to that, and it was judged then
+  -- an input of the journal made the channel join with the standing that the member has, or renewed it to that, and it
+  -- was judged then
   pub record WasJudged (journal : List Input) (h : Member) : Type 0 where
     pub later : List Input
     pub input : Input
@@ -113,7 +118,8 @@ module _ (c : Catalog) (s : Settings) where
     pub judged : IsJudged c (tables_by before input) h.channel.topic h.standing
 
   abbrev pub MembersAreJudged : Type 0
-  MembersAreJudged = (journal : List Input) (h : Member) → Contains (members_of_journal c s journal) h → WasJudged journal h
+  MembersAreJudged = (journal : List Input) (h : Member) → Contains (members_of_journal c s journal) h
+      → WasJudged journal h
 
   -- a member of the frame's slot may send to the topic, by its last judging
   pub record IsSent (before : List Input) (i : Input) (topic : List ℕ) : Type 0 where
@@ -135,7 +141,7 @@ module _ (c : Catalog) (s : Settings) where
     pub message : Posting
     pub known : Contains messages message
     pub topical : channel_topic message ≡ topic
-    pub permitted : may_post c s (found_by before) (tables_by before i) claims message ≡ true
+    pub permitted : may_post c s (found_by c s before) (tables_by before i) claims message ≡ true
 
   abbrev pub BroadcastsArePermitted : Type 0
   BroadcastsArePermitted =

@@ -16,5 +16,6 @@ module _ (c : Catalog) (s : Settings) where
   AnswersAreReadable =
       HasReadableNames c
       → (before : List Input) (i : Input) (slot : ℕ) (m : Message)
-      → length before < 2 ^ 64 → AllByRecursion (IsOfLines c) (i ∷ before) → Contains (answers c s before i) (slot, Says m)
+      → length before < 2 ^ 64 → AllByRecursion (IsOfLines c) (i ∷ before)
+      → Contains (answers c s before i) (slot, Says m)
       → IsReadable payload_levels m

@@ -29,8 +29,10 @@ abbrev pub AllFit : List Difference → Type 0
 AllFit [] = ⊤
 AllFit (d ∷ ds) = Fit d.joins × Fit d.leaves × AllFit ds
 
--- a client that is told a state and then differences holds, up to order, the metas of the state's tracks after these differences, whatever it held
+-- a client that is told a state and then differences holds, up to order, the metas of the state's tracks after these
+-- differences, whatever it held
 abbrev pub StatesAreRead : Type 0
 StatesAreRead =
     (ch : Channel) (tracks : List Track) (ds : List Difference) (held : List Held) → Fit tracks → AllFit ds
-    → IsPermutation (client_view held (presence_state ch tracks ∷ map (λ d. presence_diff ch d.joins d.leaves) ds)) (map shown_meta (after_differences tracks ds))
+    → IsPermutation (client_view held (presence_state ch tracks ∷ map (λ d. presence_diff ch d.joins d.leaves) ds))
+    (map shown_meta (after_differences tracks ds))

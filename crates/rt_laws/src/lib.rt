@@ -1,9 +1,9 @@
-//! Laws of the journal and of the machine of steps. Each is the contract of a function with an empty body.
+//! Laws of what the journal gives and of the machine of steps. Each is the contract of a function
+//! with an empty body.
 #![tactic(auto)]
 
 mod access;
 mod exact;
-mod lanes;
 mod presence;
 mod private;
 mod serving;
@@ -11,8 +11,7 @@ mod steps;
 mod stories;
 
 pub use access::{audit_decides, changes_are_allowed, given_is_allowed, verdicts_are_one};
-pub use exact::{cuts_are_put, lanes_grow, only_polls_tell_changes};
-pub use lanes::{entries_give, lanes_fan_out, marks_stay, stops_are_marked};
+pub use exact::{cuts_are_put, only_polls_tell_changes};
 pub use presence::{
     answers_are_readable, clients_agree, clients_follow, departures_are_told, given_clients_agree,
     readers_agree, states_are_read, taken_clients_agree,
@@ -23,6 +22,4 @@ pub use private::{
 };
 pub use serving::{serves_all, uncut_is_due};
 pub use steps::{cuts_are_own, others_are_untouched, push_keeps_the_rest};
-pub use stories::{
-    ids_rise, members_are_apart, openings_are_whole, slots_are_open, story_grows, tracks_are_apart,
-};
+pub use stories::openings_are_whole;

@@ -1,19 +1,24 @@
 -- What a round does lessens what is left to do, so each drain comes to its end.
-use Rattle.std.proofs.Common.{◌≡◌, ℕ, zero, suc, ◌+◌, ◌-◌, ◌<◌, ◌≤◌, Bool, true, false, ◌||◌, not, List, [], ◌∷◌, ◌++◌, length, map, refl, sym, ap, subst, ◌∙◌, arith, length-append, inl, inr}
+use Rattle.std.proofs.Common.{◌≡◌, ℕ, zero, suc, ◌+◌, ◌-◌, ◌<◌, ◌≤◌, Bool, true, false, ◌||◌, not, List, [], ◌∷◌, ◌++◌}
+use Rattle.std.proofs.Common.{length, map, refl, sym, ap, subst, ◌∙◌, arith, length-append, inl, inr}
 use Rattle.std.specs.Prelude.{◌==◌, ◌≢◌}
 use Rattle.std.specs.List.{flat_map, list_any, sum_by}
 use Rattle.std.proofs.lemmas.List.Sums.{sum_by-cons, sum_by-le-sum_by}
+use Rattle.std.proofs.lemmas.Bool.{not-false}
 use Rattle.rt_value.proofs.Among.{Among}
 use Rattle.rt_value.proofs.Plain.{AllOf, all_append, all_map_of, all_themselves}
 use Rattle.rt_catalog.specs.declared.catalog.Catalog.{Catalog}
 use Rattle.rt_entry.specs.declared.input.Input.{Input}
 use Rattle.rt_entry.specs.declared.input.Settings.{Settings}
 use Rattle.rt_entry.specs.declared.input.Step.{Step}
-use Rattle.rt_entry.specs.declared.input.Step.TheVariants.{Arrive, Feed, Take, TakeFeed, TakeClock, Send, Work, Push, Pop}
+use Rattle.rt_entry.specs.declared.input.Step.TheVariants.{Arrive, Feed, Take, TakeFeed, TakeClock, Send, Work, Push}
+use Rattle.rt_entry.specs.declared.input.Step.TheVariants.{Pop}
 use Rattle.rt_entry.specs.declared.answer.Item.{Item}
 use Rattle.rt_entry.specs.Story.{every_slot}
 use Rattle.rt_entry.specs.Answers.{lane_marks, due}
-use Rattle.rt_entry.specs.Machine.{Slot, Lane, World, Placed, Outcome, done, empty, full, opening_after, placed_from, placed, with_at, with_slot, with_lane, with_given, with_cut, outbox, pending, worked_items, send, work, is_full_for, push, pop, step_of, run}
+use Rattle.rt_entry.specs.Machine.{Slot, Lane, World, Placed, Outcome, done, empty, full, opening_after, placed_from}
+use Rattle.rt_entry.specs.Machine.{placed, with_at, with_slot, with_lane, with_given, with_cut, outbox, pending}
+use Rattle.rt_entry.specs.Machine.{worked_items, send, work, is_full_for, push, pop, step_of, run}
 use Rattle.rt_script.specs.Running.{is_done, every_lane, round, outcomes, does_nothing, Drains, still, again}
 use Rattle.rt_laws.proofs.Lists.{drop_within}
 use Rattle.rt_laws.proofs.Given.{front_at}
@@ -23,7 +28,8 @@ use Rattle.rt_laws.proofs.Untouched.{at_itself}
 use Rattle.rt_plain.proofs.Calm.{by_test, pair_of}
 
 -- a sum is less where no term is more and one is less
-sum_less : (f g : ℕ → ℕ) (ns : List ℕ) (n : ℕ) → ((m : ℕ) → f m ≤ g m) → Among ns n → f n < g n → sum_by f ns < sum_by g ns
+sum_less : (f g : ℕ → ℕ) (ns : List ℕ) (n : ℕ) → ((m : ℕ) → f m ≤ g m) → Among ns n → f n < g n
+    → sum_by f ns < sum_by g ns
 sum_less f g [] n all h lt = absurd h
 sum_less f g (m ∷ ns) n all (inl e) lt =
     let P : ℕ → Type 0 = λ k. f k < g k in
@@ -41,15 +47,18 @@ less_left a b d lt = omega arith
 less_right : (d a b : ℕ) → a < b → d + a < d + b
 less_right d a b lt = omega arith
 
-one_to_send : (all sent worked : ℕ) → sent ≤ all → sent ≢ all → (all - (sent + 1)) + (all - worked) < (all - sent) + (all - worked)
+one_to_send : (all sent worked : ℕ) → sent ≤ all → sent ≢ all
+    → (all - (sent + 1)) + (all - worked) < (all - sent) + (all - worked)
 one_to_send all sent worked le ne = omega arith
 
-one_to_work : (all sent worked : ℕ) → worked ≤ sent → sent ≤ all → worked ≢ sent → (all - sent) + (all - (worked + 1)) < (all - sent) + (all - worked)
+one_to_work : (all sent worked : ℕ) → worked ≤ sent → sent ≤ all → worked ≢ sent
+    → (all - sent) + (all - (worked + 1)) < (all - sent) + (all - worked)
 one_to_work all sent worked below within ne = omega arith
 
 -- an item that is taken counts twice, and once where it is given
 one_to_give : (all past place given popped : ℕ) → past ≤ place → place < all
-    → ((all - (place + 1)) + (all - (place + 1))) + ((given + 1) - popped) < ((all - past) + (all - past)) + (given - popped)
+    → ((all - (place + 1)) + (all - (place + 1))) + ((given + 1) - popped) < ((all - past) + (all - past))
+    + (given - popped)
 one_to_give all past place given popped from to = omega arith
 
 one_to_pop : (rest given popped : ℕ) → popped < given → rest + (given - (popped + 1)) < rest + (given - popped)
@@ -58,10 +67,6 @@ one_to_pop rest given popped lt = omega arith
 placed_long : (n o : ℕ) (xs : List Item) → length (placed_from n o xs) ≡ length xs
 placed_long n o [] = refl
 placed_long n o (x ∷ xs) = ap suc (placed_long (n + 1) (opening_after x o) xs)
-
-true_of : (b : Bool) → not b ≡ false → b ≡ true
-true_of true e = refl
-true_of false e = absurd (cc)
 
 module _ (c : Catalog) (s : Settings) where
   -- what is left for a lane to send and to work, and for a slot to take, to give and to pop
@@ -91,7 +96,8 @@ module _ (c : Catalog) (s : Settings) where
   less_left_by : (w v : World) (o : Outcome) → left v < left w → Lessens w (o, v)
   less_left_by w v o lt = (omega arith, λ e. lt)
 
-  lane_less : (w : World) (l : ℕ) (y : Lane) → Among (every_lane c s) l → lane_left w.journal l y < lane_left w.journal l (w.lanes l)
+  lane_less : (w : World) (l : ℕ) (y : Lane) → Among (every_lane c s) l
+      → lane_left w.journal l y < lane_left w.journal l (w.lanes l)
       → left (with_lane w l y) < left w
   lane_less w l y h lt =
       let f : ℕ → ℕ = λ m. lane_left w.journal m (with_at w.lanes l y m) in
@@ -100,9 +106,11 @@ module _ (c : Catalog) (s : Settings) where
       let all : (m : ℕ) → f m ≤ g m = with_all P w.lanes l y (omega arith) (λ m. omega arith) in
       let Q : Lane → Type 0 = λ z. lane_left w.journal l z < lane_left w.journal l (w.lanes l) in
       let here : f l < g l = subst Q (sym (at_itself w.lanes l y)) lt in
-      less_left (lanes_left (with_lane w l y)) (lanes_left w) (slots_left w) (sum_less f g (every_lane c s) l all h here)
+      less_left (lanes_left (with_lane w l y)) (lanes_left w) (slots_left w)
+      (sum_less f g (every_lane c s) l all h here)
 
-  slot_less : (w : World) (n : ℕ) (y : Slot) → Among every_slot n → slot_left w.journal n y < slot_left w.journal n (w.slots n)
+  slot_less : (w : World) (n : ℕ) (y : Slot) → Among every_slot n
+      → slot_left w.journal n y < slot_left w.journal n (w.slots n)
       → left (with_slot w n y) < left w
   slot_less w n y h lt =
       let f : ℕ → ℕ = λ m. slot_left w.journal m (with_at w.slots n y m) in
@@ -118,10 +126,12 @@ module _ (c : Catalog) (s : Settings) where
       let x = w.lanes l in
       let all = length (lane_marks c s w.journal l) in
       let next : Outcome × World = (done, with_lane w l (one_sent x)) in
-      by_test (Lessens w) (x.sent == all) (empty, w) (elim (x.sent - x.worked == s.lane) [ true ↦ (full, w) | false ↦ next ])
+      by_test (Lessens w) (x.sent == all) (empty, w)
+      (elim (x.sent - x.worked == s.lane) [ true ↦ (full, w) | false ↦ next ])
       (λ t. same_left w empty refl)
       (λ t. by_test (Lessens w) (x.sent - x.worked == s.lane) (full, w) next (λ u. same_left w full refl)
-      (λ u. less_left_by w next.1 done (lane_less w l (one_sent x) h (one_to_send all x.sent x.worked (g.sent l) (not_equal x.sent all t)))))
+      (λ u. less_left_by w next.1 done
+      (lane_less w l (one_sent x) h (one_to_send all x.sent x.worked (g.sent l) (not_equal x.sent all t)))))
 
   work_lessens : (w : World) (l : ℕ) → Among (every_lane c s) l → IsGood c s w → Lessens w (work w l (w.lanes l))
   work_lessens w l h g =
@@ -130,7 +140,8 @@ module _ (c : Catalog) (s : Settings) where
       let next : Outcome × World = (done, with_lane w l (one_worked x)) in
       by_test (Lessens w) (x.worked == x.sent) (empty, w) next (λ t. same_left w empty refl)
       (λ t. less_left_by w next.1 done
-      (lane_less w l (one_worked x) h (one_to_work all x.sent x.worked (g.worked l) (g.sent l) (not_equal x.worked x.sent t))))
+      (lane_less w l (one_worked x) h
+      (one_to_work all x.sent x.worked (g.worked l) (g.sent l) (not_equal x.worked x.sent t))))
 
   -- the front of what is pending stands behind what was taken, within what is due
   front_within : (w : World) (n : ℕ) (p : Placed) (ps : List Placed) → IsGood c s w → pending c s w n ≡ p ∷ ps
@@ -142,11 +153,14 @@ module _ (c : Catalog) (s : Settings) where
       let at = front.at in
       let within = drop_within p.place (placed items) p front.rest (front_at items x.past x.cuts p front) in
       let more = due_more c s w n in
-      let long : length (due c s w.journal n) ≡ length items + length more.0 = ap length more.1 ∙ length-append items more.0 in
+      let long : length (due c s w.journal n) ≡ length items + length more.0 = ap length more.1
+      ∙ length-append items more.0 in
       (omega arith, omega (arith, placed_long 0 0 items))
 
-  taken_less : (w : World) (n : ℕ) (p : Placed) (ps : List Placed) (y : Slot) (i : Item) → Among every_slot n → IsGood c s w
-      → pending c s w n ≡ p ∷ ps → y.past ≡ p.place + 1 → y.given ≡ (w.slots n).given ++ i ∷ [] → y.popped ≡ (w.slots n).popped
+  taken_less : (w : World) (n : ℕ) (p : Placed) (ps : List Placed) (y : Slot) (i : Item) → Among every_slot n
+      → IsGood c s w
+      → pending c s w n ≡ p ∷ ps → y.past ≡ p.place + 1 → y.given ≡ (w.slots n).given ++ i ∷ []
+      → y.popped ≡ (w.slots n).popped
       → left (with_slot w n y) < left w
   taken_less w n p ps y i h g e past given popped =
       let x = w.slots n in
@@ -168,7 +182,8 @@ module _ (c : Catalog) (s : Settings) where
       (λ t. less_left_by w cut full (taken_less w n p ps (with_cut x p) _ h g e refl refl refl))
       (λ t. less_left_by w given done (taken_less w n p ps (with_given x p) _ h g e refl refl refl))
 
-  pop_lessens : (w : World) (n : ℕ) (is : List Item) → Among every_slot n → outbox (w.slots n) ≡ is → Lessens w (pop w n (w.slots n) is)
+  pop_lessens : (w : World) (n : ℕ) (is : List Item) → Among every_slot n → outbox (w.slots n) ≡ is
+      → Lessens w (pop w n (w.slots n) is)
   pop_lessens w n [] h e = same_left w empty refl
   pop_lessens w n (i ∷ is) h e =
       let x = w.slots n in
@@ -199,9 +214,11 @@ module _ (c : Catalog) (s : Settings) where
 
   -- steps one after another
   abbrev AllLessen : List Step → World → Type 0
-  AllLessen xs w = (left (run c s xs w) ≤ left w) × (list_any is_done (outcomes c s xs w) ≡ true → left (run c s xs w) < left w)
+  AllLessen xs w = (left (run c s xs w) ≤ left w)
+      × (list_any is_done (outcomes c s xs w) ≡ true → left (run c s xs w) < left w)
 
-  one_more : (o : Bool) (os : List Outcome) (a b d : ℕ) → b ≤ a → (o ≡ true → b < a) → d ≤ b → (list_any is_done os ≡ true → d < b)
+  one_more : (o : Bool) (os : List Outcome) (a b d : ℕ) → b ≤ a → (o ≡ true → b < a) → d ≤ b
+      → (list_any is_done os ≡ true → d < b)
       → (o || list_any is_done os) ≡ true → d < a
   one_more true os a b d le lt more less e = let here = lt refl in omega arith
   one_more false os a b d le lt more less e = let rest = less e in omega arith
@@ -216,7 +233,8 @@ module _ (c : Catalog) (s : Settings) where
       let le = here.0 in
       let more = rest.0 in (
         omega arith,
-        one_more (is_done next.0) (outcomes c s xs next.1) (left w) (left next.1) (left (run c s xs next.1)) le here.1 more rest.1,
+        one_more (is_done next.0) (outcomes c s xs next.1) (left w) (left next.1)
+            (left (run c s xs next.1)) le here.1 more rest.1,
       )
 
   pairs_are : (ns : List ℕ) → AllOf (Among every_slot) ns → AllOf IsOfRound (flat_map pair_of ns)
@@ -228,7 +246,8 @@ module _ (c : Catalog) (s : Settings) where
       let lanes = every_lane c s in
       let each = all_themselves lanes in
       all_append IsOfRound (map Send lanes ++ map Work lanes) (flat_map pair_of every_slot)
-      (all_append IsOfRound (map Send lanes) (map Work lanes) (all_map_of IsOfRound (Among lanes) Send lanes (λ l h. h) each)
+      (all_append IsOfRound (map Send lanes) (map Work lanes)
+      (all_map_of IsOfRound (Among lanes) Send lanes (λ l h. h) each)
       (all_map_of IsOfRound (Among lanes) Work lanes (λ l h. h) each))
       (pairs_are every_slot (all_themselves every_slot))
 
@@ -239,14 +258,16 @@ module _ (c : Catalog) (s : Settings) where
   abbrev next : World → World
   next w = run c s (round c s) w
 
-  behind_round : (w : World) → IsGood c s w → (left (next w) < left w → DrainEnds (next w)) → (b : Bool) → does_nothing c s w ≡ b → DrainEnds w
+  behind_round : (w : World) → IsGood c s w → (left (next w) < left w → DrainEnds (next w)) → (b : Bool)
+      → does_nothing c s w ≡ b → DrainEnds w
   behind_round w g rest true e = (next w, still e, run_good c s (round c s) w g)
   behind_round w g rest false e =
-      let something = true_of (list_any is_done (outcomes c s (round c s) w)) e in
+      let something = not-false (list_any is_done (outcomes c s (round c s) w)) e in
       let found = rest ((all_lessen (round c s) w round_is g).1 something) in
       (found.0, again e found.1, found.2)
 
   pub drains : (n : ℕ) (w : World) → IsGood c s w → left w < n → DrainEnds w
   drains zero w g lt = absurd (omega arith)
   drains (suc n) w g lt =
-      behind_round w g (λ less. drains n (next w) (run_good c s (round c s) w g) (omega arith)) (does_nothing c s w) refl
+      behind_round w g (λ less. drains n (next w) (run_good c s (round c s) w g) (omega arith))
+      (does_nothing c s w) refl

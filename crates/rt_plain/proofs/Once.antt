@@ -7,7 +7,8 @@ use Rattle.rt_entry.specs.Machine.{World, start, run, step_of}
 use Rattle.rt_script.specs.declared.script.Act.{Act}
 use Rattle.rt_script.specs.declared.script.Act.TheVariants.{One, Drain}
 use Rattle.rt_script.specs.declared.script.Line.{Line}
-use Rattle.rt_script.specs.Running.{line_of, scheduled, breaks_off, round, does_nothing, Ending, ends, breaks, Drains, still, again, Runs, at_end, steps, stops, drains}
+use Rattle.rt_script.specs.Running.{line_of, scheduled, breaks_off, round, does_nothing, Ending, ends, breaks, Drains}
+use Rattle.rt_script.specs.Running.{still, again, Runs, at_end, steps, stops, drains}
 use Rattle.rt_laws.proofs.Good.{IsGood, start_good, step_good}
 use Rattle.rt_plain.specs.Runs.{ScriptsRun, RunsAreOne}
 use Rattle.rt_plain.proofs.Falling as falling
@@ -46,7 +47,8 @@ module _ (c : Catalog) (s : Settings) where
   abbrev HaveRuns : List Line → Type 0
   HaveRuns ls = (w : World) → IsGood c s w → (e : Ending) × Runs c s w ls e
 
-  step_on : (number : ℕ) (x : Step) (ls : List Line) → HaveRuns ls → (w : World) → IsGood c s w → (b : Bool) → breaks_off (step_of c s w x).0 ≡ b
+  step_on : (number : ℕ) (x : Step) (ls : List Line) → HaveRuns ls → (w : World) → IsGood c s w → (b : Bool)
+      → breaks_off (step_of c s w x).0 ≡ b
       → (e : Ending) × Runs c s w (line_of number (One x) ∷ ls) e
   step_on number x ls rest w g true t = (breaks number (step_of c s w x).0, stops t)
   step_on number x ls rest w g false t = let r = rest (step_of c s w x).1 (step_good c s w x g) in (r.0, steps t r.1)

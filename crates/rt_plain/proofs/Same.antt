@@ -11,8 +11,10 @@ use Rattle.rt_plain.specs.Plain.{IsPlain, inputs_of}
 use Rattle.rt_plain.proofs.Free.{same_due}
 use Rattle.rt_plain.proofs.Taken.{gives_all}
 
-pub same_given : (c : Catalog) (one two : Script) (v w : World) → IsPlain one → IsPlain two → one.steps ≡ two.steps → one.settings.secret ≡ two.settings.secret → one.settings.max_record ≡ two.settings.max_record
-    → IsRun c one (ends v) → IsRun c two (ends w) → (slot : ℕ) → slot < slot_count → (v.slots slot).given ≡ (w.slots slot).given
+pub same_given : (c : Catalog) (one two : Script) (v w : World) → IsPlain one → IsPlain two → one.steps ≡ two.steps
+    → one.settings.secret ≡ two.settings.secret → one.settings.max_record ≡ two.settings.max_record
+    → IsRun c one (ends v) → IsRun c two (ends w) → (slot : ℕ) → slot < slot_count
+    → (v.slots slot).given ≡ (w.slots slot).given
 same_given c one two v w p q e f g r t slot lt =
     (gives_all c one v p r).given slot lt
     ∙ ap (λ (ls : List Line). due c one.settings (reverse (inputs_of ls)) slot) e

@@ -1,5 +1,6 @@
 -- The plain schedule: each input of a script is taken at once, and then all is done that can be done.
-use Rattle.std.specs.Prelude.{◌≡◌, ◌↔◌, ℕ, ◌<◌, nat_lt, nat_le, Bool, true, false, List, [], ◌∷◌, length, reverse, Option, Some, None, ⊤}
+use Rattle.std.specs.Prelude.{◌≡◌, ◌↔◌, ℕ, ◌<◌, nat_lt, nat_le, Bool, true, false, List, [], ◌∷◌, length, reverse}
+use Rattle.std.specs.Prelude.{Option, Some, None, ⊤}
 use Rattle.std.specs.List.{filter_map}
 use Rattle.rt_catalog.specs.declared.catalog.Catalog.{Catalog}
 use Rattle.rt_entry.specs.declared.input.Input.{Input}
@@ -73,10 +74,12 @@ PlainEnds =
 pub record GivesAll (c : Catalog) (script : Script) (w : World) : Type 0 where
   pub journal : w.journal ≡ reverse (inputs_of script.steps)
   pub cuts : (slot : ℕ) → slot < slot_count → (w.slots slot).cuts ≡ []
-  pub given : (slot : ℕ) → slot < slot_count → (w.slots slot).given ≡ due c script.settings (reverse (inputs_of script.steps)) slot
+  pub given : (slot : ℕ) → slot < slot_count
+      → (w.slots slot).given ≡ due c script.settings (reverse (inputs_of script.steps)) slot
 
 abbrev pub PlainGivesAll : Type 0
-PlainGivesAll = (c : Catalog) (script : Script) (w : World) → IsPlain script → IsRun c script (ends w) → GivesAll c script w
+PlainGivesAll = (c : Catalog) (script : Script) (w : World) → IsPlain script → IsRun c script (ends w)
+    → GivesAll c script w
 
 -- what is due asks neither how many workers there are nor what outboxes, lanes and inlets hold
 abbrev pub DueIsFree : Type 0
@@ -88,11 +91,13 @@ DueIsFree =
 abbrev pub WorkersAreFree : Type 0
 WorkersAreFree =
     (c : Catalog) (one two : Script) (v w : World)
-    → IsPlain one → IsPlain two → one.steps ≡ two.steps → one.settings.secret ≡ two.settings.secret → one.settings.max_record ≡ two.settings.max_record
+    → IsPlain one → IsPlain two → one.steps ≡ two.steps → one.settings.secret ≡ two.settings.secret
+    → one.settings.max_record ≡ two.settings.max_record
     → IsRun c one (ends v) → IsRun c two (ends w)
     → (slot : ℕ) → slot < slot_count → (v.slots slot).given ≡ (w.slots slot).given
 
--- two plain scripts of the same lines, with the same limits on inputs and rows: only workers, capacity, lane and inlet may differ
+-- two plain scripts of the same lines, with the same limits on inputs and rows: only workers, capacity, lane and inlet
+-- may differ
 pub record AreAlike (one two : Script) : Type 0 where
   pub steps : one.steps ≡ two.steps
   pub secret : one.settings.secret ≡ two.settings.secret
@@ -108,4 +113,5 @@ pub record EndsAlike (c : Catalog) (script : Script) (v : World) : Type 0 where
 
 -- where one of them runs to its end, so does the other, and gives each slot the same items in the same order
 abbrev pub WorkersEndAlike : Type 0
-WorkersEndAlike = (c : Catalog) (one two : Script) (v : World) → IsPlain one → IsPlain two → AreAlike one two → IsRun c one (ends v) → EndsAlike c two v
+WorkersEndAlike = (c : Catalog) (one two : Script) (v : World) → IsPlain one → IsPlain two → AreAlike one two
+    → IsRun c one (ends v) → EndsAlike c two v

@@ -1,4 +1,5 @@
-//! The runs of scripts: each script has one, and the plain schedule gives every slot all that is due to it, for any number of workers.
+//! The runs of scripts: each script has one, and the plain schedule gives every slot all that is
+//! due to it, for any number of workers.
 #![tactic(auto)]
 
 mod runs;

@@ -1,6 +1,7 @@
 ghost use Rattle.rt_plain.specs.Runs.{RunsAreOne, ScriptsRun};
 
-/// Each script has a run, whatever its schedule and its settings: each of its drains comes to its end.
+/// Each script has a run, whatever its schedule and its settings: each of its drains comes to its
+/// end.
 pub fn scripts_run()
     ensures { ScriptsRun }
 {}

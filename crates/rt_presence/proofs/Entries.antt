@@ -35,17 +35,21 @@ module _ {K V : Type 0} (cmp : K → K → Ordering) where
   entries_from es k = filter (λ e. is_le (cmp k e.0)) es
 
   pub range_from : (k : K) (es : List (K × V)) → entries_between cmp (Included k) Unbounded es ≡ entries_from es k
-  range_from k es = filter_same (λ e. is_le (cmp k e.0) && true) (λ e. is_le (cmp k e.0)) (λ e. and_true (is_le (cmp k e.0))) es
+  range_from k es = filter_same (λ e. is_le (cmp k e.0) && true) (λ e. is_le (cmp k e.0))
+      (λ e. and_true (is_le (cmp k e.0))) es
 
 -- an entry behind all others goes to the end
-module _ {K V : Type 0} {cmp : K → K → Ordering} (total : IsTotalOrder cmp) (k : K) (v : V) (behind : List (K × V)) where
+module _ {K V : Type 0} {cmp : K → K → Ordering} (total : IsTotalOrder cmp) (k : K) (v : V)
+    (behind : List (K × V)) where
   above : (l : K) (es : List (K × V)) → AllOf (λ x. cmp l x ≡ Less) (keys_of (es ++ (k, v) ∷ behind)) → cmp l k ≡ Less
   above l [] a = a.0
   above l (e ∷ es) a = above l es a.1
 
-  pub insert_last : (es : List (K × V)) → IsRising cmp (es ++ (k, v) ∷ behind) → insert_entry cmp es k v ≡ es ++ (k, v) ∷ []
+  pub insert_last : (es : List (K × V)) → IsRising cmp (es ++ (k, v) ∷ behind)
+      → insert_entry cmp es k v ≡ es ++ (k, v) ∷ []
   unfolding IsStrictlySortedBy
   insert_last [] rising = refl
   insert_last (e ∷ es) rising =
-      ap (λ r. match_ordering r ((k, v) ∷ e ∷ es) ((e.0, v) ∷ es) (e ∷ insert_entry cmp es k v)) (total.antisymm k e.0 ∙ ap ordering_reverse (above e.0 es rising.0))
+      ap (λ r. match_ordering r ((k, v) ∷ e ∷ es) ((e.0, v) ∷ es) (e ∷ insert_entry cmp es k v)) (total.antisymm k e.0
+      ∙ ap ordering_reverse (above e.0 es rising.0))
       ∙ ap (λ ys. e ∷ ys) (insert_last es rising.1)

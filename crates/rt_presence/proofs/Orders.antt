@@ -9,18 +9,22 @@ use Rattle.std.proofs.lemmas.Cmp.{nat_cmp_total, nat_list_cmp_total, on_total, t
 use Rattle.std.proofs.lemmas.Map.Lookups.{exact_unsigned, exact_bytes}
 use Rattle.std.proofs.lemmas.Bool.Decides.{eqb_tells}
 use Rattle.std.proofs.lemmas.Slice.Eq.{bytes_eq-Decides}
-use Rattle.rt_presence.specs.declared.tracks.Track.{Track}
+use Rattle.std.proofs.lemmas.Bool.{and_parts, eqb-true, eq-eqb}
+use Rattle.rt_presence.specs.declared.tracks.TrackKey.{TrackKey}
 use Rattle.rt_presence.specs.declared.tracks.Place.{Place}
-use Rattle.rt_presence.specs.Tracks.{Standing, track_cmp, place_cmp, track_at, is_of}
+use Rattle.rt_presence.specs.Tracks.{Tracked, track_cmp, place_cmp, track_at, is_of}
 use Rattle.rt_presence.specs.Index.{place_of}
 
 pub place_total : IsTotalOrder place_cmp
-place_total = then_total (on_total (λ (p : Place). p.topic) nat_list_cmp_total) (on_total (λ (p : Place). p.channel) nat_cmp_total)
+place_total = then_total (on_total (λ (p : Place). p.topic) nat_list_cmp_total)
+    (on_total (λ (p : Place). p.channel) nat_cmp_total)
 
 pub track_total : IsTotalOrder track_cmp
 track_total =
-    then_total (on_total (λ (t : Track). t.topic) nat_list_cmp_total) (then_total (on_total (λ (t : Track). t.key) nat_list_cmp_total)
-    (then_total (on_total (λ (t : Track). t.reference) nat_cmp_total) (on_total (λ (t : Track). t.channel) nat_cmp_total)))
+    then_total (on_total (λ (t : TrackKey). t.topic) nat_list_cmp_total)
+    (then_total (on_total (λ (t : TrackKey). t.key) nat_list_cmp_total)
+    (then_total (on_total (λ (t : TrackKey). t.reference) nat_cmp_total)
+    (on_total (λ (t : TrackKey). t.channel) nat_cmp_total)))
 
 pub both_equal : (o p : Ordering) → ordering_then o p ≡ Equal → (o ≡ Equal) × (p ≡ Equal)
 both_equal Less p h = absurd (cc)
@@ -33,9 +37,10 @@ place_at topic channel = record { topic = topic; channel = channel }
 pub place_exact : (p q : Place) → place_cmp p q ≡ Equal → p ≡ q
 place_exact p q h =
     let parts = both_equal _ _ h in
-    ap (λ t. place_at t p.channel) (exact_bytes p.topic q.topic parts.0) ∙ ap (place_at q.topic) (exact_unsigned p.channel q.channel parts.1)
+    ap (λ t. place_at t p.channel) (exact_bytes p.topic q.topic parts.0)
+    ∙ ap (place_at q.topic) (exact_unsigned p.channel q.channel parts.1)
 
-pub track_exact : (t u : Track) → track_cmp t u ≡ Equal → t ≡ u
+pub track_exact : (t u : TrackKey) → track_cmp t u ≡ Equal → t ≡ u
 track_exact t u h =
     let one = both_equal _ _ h in
     let two = both_equal _ _ one.1 in
@@ -50,40 +55,32 @@ is_eq_true Less h = absurd (cc)
 is_eq_true Equal h = refl
 is_eq_true Greater h = absurd (cc)
 
-both_true : (a b : Bool) → (a && b) ≡ true → (a ≡ true) × (b ≡ true)
-both_true true b h = (refl, h)
-both_true false b h = absurd (cc)
-
-same_number : (n m : ℕ) → (n == m) ≡ true → n ≡ m
-same_number n m e = elim (eqb_tells n m) [ inl t ↦ t.1 | inr t ↦ absurd (let k : true ≡ false = sym e ∙ t.0 in cc) ]
-
-number_itself : (n m : ℕ) → n ≡ m → (n == m) ≡ true
-number_itself n m e = elim (eqb_tells n m) [ inl t ↦ t.0 | inr t ↦ absurd (t.1 e) ]
-
 -- a track is of a channel on a topic where that is its place
-pub of_place : (p : Place) (t : Standing) → is_of p.topic p.channel t ≡ true → place_of t.0 ≡ p
+pub of_place : (p : Place) (t : Tracked) → is_of p.topic p.channel t ≡ true → place_of t.0 ≡ p
 of_place p t h =
-    let parts = both_true _ _ h in
-    ap (λ x. place_at x t.0.channel) ((bytes_eq-Decides t.0.topic p.topic).0 parts.0) ∙ ap (place_at p.topic) (same_number t.0.channel p.channel parts.1)
+    let parts = and_parts _ _ h in
+    ap (λ x. place_at x t.0.channel) ((bytes_eq-Decides t.0.topic p.topic).0 parts.0)
+    ∙ ap (place_at p.topic) (eqb-true t.0.channel p.channel parts.1)
 
-pub at_place : (p : Place) (t : Standing) → place_of t.0 ≡ p → is_of p.topic p.channel t ≡ true
+pub at_place : (p : Place) (t : Tracked) → place_of t.0 ≡ p → is_of p.topic p.channel t ≡ true
 at_place p t e =
     ap (λ b. b && (t.0.channel == p.channel)) ((bytes_eq-Decides t.0.topic p.topic).1 (ap (λ (q : Place). q.topic) e))
-    ∙ number_itself t.0.channel p.channel (ap (λ (q : Place). q.channel) e)
+    ∙ eq-eqb t.0.channel p.channel (ap (λ (q : Place). q.channel) e)
 
-same_bool : (a b : Bool) → (a ≡ true → b ≡ true) → (b ≡ true → a ≡ true) → a ≡ b
+pub same_bool : (a b : Bool) → (a ≡ true → b ≡ true) → (b ≡ true → a ≡ true) → a ≡ b
 same_bool true b f g = sym (f refl)
 same_bool false true f g = g refl
 same_bool false false f g = refl
 
-pub of_is : (p : Place) (t : Standing) → is_eq (place_cmp p (place_of t.0)) ≡ is_of p.topic p.channel t
+pub of_is : (p : Place) (t : Tracked) → is_eq (place_cmp p (place_of t.0)) ≡ is_of p.topic p.channel t
 of_is p t =
     same_bool (is_eq (place_cmp p (place_of t.0))) (is_of p.topic p.channel t)
     (λ h. at_place p t (sym (place_exact p (place_of t.0) (is_eq_true _ h))))
     (λ h. ap is_eq (ap (place_cmp p) (of_place p t h) ∙ tied_itself place_total p))
 
 -- the track found at a place is told from the others as the channel is
-pub told : (p : Place) (t : Track) (u : Standing) → place_of t ≡ p → (is_of p.topic p.channel u ≡ true → u.0 ≡ t) → is_eq (track_cmp t u.0) ≡ is_of p.topic p.channel u
+pub told : (p : Place) (t : TrackKey) (u : Tracked) → place_of t ≡ p → (is_of p.topic p.channel u ≡ true → u.0 ≡ t)
+    → is_eq (track_cmp t u.0) ≡ is_of p.topic p.channel u
 told p t u own one =
     same_bool (is_eq (track_cmp t u.0)) (is_of p.topic p.channel u)
     (λ h. at_place p u (ap place_of (sym (track_exact t u.0 (is_eq_true _ h))) ∙ own))

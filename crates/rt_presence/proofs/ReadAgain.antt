@@ -1,5 +1,6 @@
 -- What a client reads of trees of metas is what was written, up to order.
-use Rattle.std.proofs.Common.{◌≡◌, ℕ, ◌<◌, Bool, true, false, not, cond, List, [], ◌∷◌, ◌++◌, map, Option, Some, None, refl, sym, ap, ◌∙◌, inl, inr}
+use Rattle.std.proofs.Common.{◌≡◌, ℕ, ◌<◌, Bool, true, false, not, cond, List, [], ◌∷◌, ◌++◌, map, Option, Some, None}
+use Rattle.std.proofs.Common.{refl, sym, ap, ◌∙◌, inl, inr}
 use Rattle.std.specs.Prelude.{◌==◌, ◌^◌, codes, unwrap_or}
 use Rattle.std.specs.Fmt.{decimal}
 use Rattle.std.specs.List.{filter, flat_map}
@@ -21,7 +22,8 @@ use Rattle.rt_presence.specs.Trees.{Held, is_kept, meta_object, under_key, metas
 use Rattle.rt_presence.specs.Reading.{metas_under, metas_in, reference_of, part_of, is_among, after_difference}
 use Rattle.rt_presence.proofs.Groups.{all_unmap, keys}
 
-flat_of_map : {A B C : Type 0} (f : B → List C) (g : A → B) (xs : List A) → flat_map f (map g xs) ≡ flat_map (λ x. f (g x)) xs
+flat_of_map : {A B C : Type 0} (f : B → List C) (g : A → B) (xs : List A)
+    → flat_map f (map g xs) ≡ flat_map (λ x. f (g x)) xs
 flat_of_map f g [] = refl
 flat_of_map f g (x ∷ xs) = ap (λ ys. f (g x) ++ ys) (flat_of_map f g xs)
 
@@ -36,13 +38,17 @@ key_of h = h.0
 abbrev paired : List ℕ → Json → Held
 paired k meta = (k, meta)
 
-own_pair : (k : List ℕ) (h : Held) (hs : List Held) (b : Bool) → of_key key_of k h ≡ b → map (paired k) (map (λ (x : Held). x.1) (group key_of hs k)) ≡ group key_of hs k
-    → map (paired k) (map (λ (x : Held). x.1) (cond b (h ∷ group key_of hs k) (group key_of hs k))) ≡ cond b (h ∷ group key_of hs k) (group key_of hs k)
+own_pair : (k : List ℕ) (h : Held) (hs : List Held) (b : Bool) → of_key key_of k h ≡ b
+    → map (paired k) (map (λ (x : Held). x.1) (group key_of hs k)) ≡ group key_of hs k
+    → map (paired k) (map (λ (x : Held). x.1) (cond b (h ∷ group key_of hs k) (group key_of hs k)))
+    ≡ cond b (h ∷ group key_of hs k) (group key_of hs k)
 own_pair k h hs true e more =
-    ap (λ (x : List ℕ). paired x h.1 ∷ map (paired k) (map (λ (y : Held). y.1) (group key_of hs k))) (sym ((bytes_eq-Decides h.0 k).0 e)) ∙ ap (λ ys. h ∷ ys) more
+    ap (λ (x : List ℕ). paired x h.1 ∷ map (paired k) (map (λ (y : Held). y.1) (group key_of hs k)))
+    (sym ((bytes_eq-Decides h.0 k).0 e)) ∙ ap (λ ys. h ∷ ys) more
 own_pair k h hs false e more = more
 
-pairs_again : (k : List ℕ) (hs : List Held) → map (paired k) (map (λ (x : Held). x.1) (group key_of hs k)) ≡ group key_of hs k
+pairs_again : (k : List ℕ) (hs : List Held) → map (paired k) (map (λ (x : Held). x.1) (group key_of hs k))
+    ≡ group key_of hs k
 pairs_again k [] = refl
 pairs_again k (h ∷ hs) = own_pair k h hs (of_key key_of k h) refl (pairs_again k hs)
 
@@ -50,7 +56,8 @@ under_again : (hs : List Held) (k : List ℕ) → metas_under (metas_of hs k) �
 under_again hs k =
     let ms = under_key hs k in
     let put : List Json → List Held = λ xs. map (paired k) xs in
-    ap (λ (o : Option Json). put (unwrap_or (o >>= list_of) [])) (object_at (field (codes "metas") (j.List ms) ∷ []) (codes "metas"))
+    ap (λ (o : Option Json). put (unwrap_or (o >>= list_of) []))
+    (object_at (field (codes "metas") (j.List ms) ∷ []) (codes "metas"))
     ∙ ap (λ (o : Option (List Json)). put (unwrap_or o [])) (list_items ms)
     ∙ pairs_again k hs
 
@@ -62,25 +69,33 @@ read_again hs =
     ∙ flat_of_map metas_under (metas_of hs) (keys hs)
     ∙ flat_same (λ k. metas_under (metas_of hs k)) (group key_of hs) (keys hs) (under_again hs) in
     then_to (metas_in (metas_tree hs)) all hs (moves_same (metas_in (metas_tree hs)) all is)
-    (grouped key_of (keys hs) hs (ordered_rises (map key_of hs)) (all_unmap (IsIn (keys hs)) key_of hs (ordered_has (map key_of hs))))
+    (grouped key_of (keys hs) hs (ordered_rises (map key_of hs))
+    (all_unmap (IsIn (keys hs)) key_of hs (ordered_has (map key_of hs))))
 
 -- references
 
-left_out : (name : List ℕ) (m : Member) (ms : List Member) (b : Bool) → bytes_eq m.name name ≡ b → last_named name ms ≡ None → last_named name (cond (not b) (m ∷ ms) ms) ≡ None
+left_out : (name : List ℕ) (m : Member) (ms : List Member) (b : Bool) → bytes_eq m.name name ≡ b
+    → last_named name ms ≡ None → last_named name (cond (not b) (m ∷ ms) ms) ≡ None
 left_out name m ms true e h = h
-left_out name m ms false e h = ap (λ (o : Option Json). or_else o (cond (bytes_eq m.name name) (Some m.value) None)) h ∙ ap (λ (b : Bool). cond b (Some m.value) None) e
+left_out name m ms false e h = ap (λ (o : Option Json). or_else o (cond (bytes_eq m.name name) (Some m.value) None)) h
+    ∙ ap (λ (b : Bool). cond b (Some m.value) None) e
 
-none_left : (name : List ℕ) (ms : List Member) → last_named name (filter (λ (m : Member). not (bytes_eq m.name name)) ms) ≡ None
+none_left : (name : List ℕ) (ms : List Member)
+    → last_named name (filter (λ (m : Member). not (bytes_eq m.name name)) ms) ≡ None
 none_left name [] = refl
-none_left name (m ∷ ms) = left_out name m (filter (λ (x : Member). not (bytes_eq x.name name)) ms) (bytes_eq m.name name) refl (none_left name ms)
+none_left name (m ∷ ms) = left_out name m (filter (λ (x : Member). not (bytes_eq x.name name)) ms)
+    (bytes_eq m.name name) refl (none_left name ms)
 
-pub reference_is : (key : List ℕ) (reference : ℕ) (tree : Json) → reference_of (key, meta_object reference tree) ≡ decimal reference
+pub reference_is : (key : List ℕ) (reference : ℕ) (tree : Json) → reference_of (key, meta_object reference tree)
+    ≡ decimal reference
 reference_is key reference tree =
     ap (λ (o : Option Json). unwrap_or (o >>= text_of) [])
     (object_at (field (codes "phx_ref") (Text (decimal reference)) ∷ filter is_kept (members_of tree)) (codes "phx_ref")
-    ∙ ap (λ (o : Option Json). or_else o (Some (Text (decimal reference)))) (none_left (codes "phx_ref") (members_of tree)))
+    ∙ ap (λ (o : Option Json). or_else o (Some (Text (decimal reference))))
+    (none_left (codes "phx_ref") (members_of tree)))
 
-differ : (m n : ℕ) (x : Bool) → m < 2 ^ 64 → n < 2 ^ 64 → bytes_eq (decimal m) (decimal n) ≡ x → (m ≡ n → ⊥) → bytes_eq (decimal m) (decimal n) ≡ false
+differ : (m n : ℕ) (x : Bool) → m < 2 ^ 64 → n < 2 ^ 64 → bytes_eq (decimal m) (decimal n) ≡ x → (m ≡ n → ⊥)
+    → bytes_eq (decimal m) (decimal n) ≡ false
 differ m n true a b e ne = absurd (ne (decimal_injective m n a b ((bytes_eq-Decides (decimal m) (decimal n)).0 e)))
 differ m n false a b e ne = e
 
@@ -92,17 +107,21 @@ same_text m n a b = elim (eqb_tells m n) [
 
 -- one difference
 pub difference_read : (held seen joins leaves : List Held) → Moves held seen
-    → Moves (after_difference held (joins_and_leaves joins leaves)) (filter (λ h. not (is_among leaves h)) (seen ++ joins))
+    → Moves (after_difference held (joins_and_leaves joins leaves))
+    (filter (λ h. not (is_among leaves h)) (seen ++ joins))
 difference_read held seen joins leaves m =
     let ms : List Member = field (codes "joins") (metas_tree joins) ∷ field (codes "leaves") (metas_tree leaves) ∷ [] in
     let tree = j.Object ms in
     let js = metas_in (metas_tree joins) in
     let ls = metas_in (metas_tree leaves) in
     let stays : List Held → Held → Bool = λ gone h. not (is_among gone h) in
-    let joined : part_of (codes "joins") tree ≡ js = ap (λ (o : Option Json). metas_in (unwrap_or o (j.Object []))) (object_at ms (codes "joins")) in
-    let left : part_of (codes "leaves") tree ≡ ls = ap (λ (o : Option Json). metas_in (unwrap_or o (j.Object []))) (object_at ms (codes "leaves")) in
+    let joined : part_of (codes "joins") tree ≡ js =
+    ap (λ (o : Option Json). metas_in (unwrap_or o (j.Object []))) (object_at ms (codes "joins")) in
+    let left : part_of (codes "leaves") tree ≡ ls =
+    ap (λ (o : Option Json). metas_in (unwrap_or o (j.Object []))) (object_at ms (codes "leaves")) in
     let is : after_difference held tree ≡ filter (stays ls) (held ++ js) =
-    ap (λ (x : List Held). filter (stays x) (held ++ part_of (codes "joins") tree)) left ∙ ap (λ (x : List Held). filter (stays ls) (held ++ x)) joined in
+    ap (λ (x : List Held). filter (stays x) (held ++ part_of (codes "joins") tree)) left
+    ∙ ap (λ (x : List Held). filter (stays ls) (held ++ x)) joined in
     let alike : (h : Held) → stays ls h ≡ stays leaves h =
     λ h. ap not (moves_any (λ g. bytes_eq (reference_of g) (reference_of h)) ls leaves (read_again leaves)) in
     let all = seen ++ joins in

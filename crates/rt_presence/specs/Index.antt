@@ -4,11 +4,11 @@ use Rattle.std.specs.declared.cmp.Ordering.{Ordering}
 use Rattle.std.specs.BTreeMap.{is_at}
 use Rattle.std.specs.List.{AllByRecursion}
 use Rattle.std.specs.Map.{lookup}
-use Rattle.rt_presence.specs.declared.tracks.Track.{Track}
+use Rattle.rt_presence.specs.declared.tracks.TrackKey.{TrackKey}
 use Rattle.rt_presence.specs.declared.tracks.Place.{Place}
-use Rattle.rt_presence.specs.Tracks.{Standing, track_cmp, place_cmp, track_at}
+use Rattle.rt_presence.specs.Tracks.{Tracked, track_cmp, place_cmp, track_at}
 
-abbrev pub place_of : Track → Place
+abbrev pub place_of : TrackKey → Place
 place_of t = record { topic = t.topic; channel = t.channel }
 
 -- the value at the key k
@@ -16,11 +16,11 @@ abbrev pub value_at : {K V : Type 0} → (K → K → Ordering) → List (K × V
 value_at cmp es k = lookup (is_at (cmp k)) es
 
 -- each track is found at its place, and what is found at a place is a track of it that stands
-pub record IsIndexed (tracks : List Standing) (places : List (Place × Track)) : Type 0 where
+pub record IsIndexed (tracks : List Tracked) (places : List (Place × TrackKey)) : Type 0 where
   pub found : AllByRecursion (λ t. value_at place_cmp places (place_of t.0) ≡ Some t.0) tracks
   pub own : (p : Place) → IfSome (value_at place_cmp places p) (λ t. place_of t ≡ p)
   pub stands : (p : Place) → IfSome (value_at place_cmp places p) (λ t. IsSome (value_at track_cmp tracks t))
 
 -- the first of all tracks that may be on the topic
-abbrev pub least_on : List ℕ → Track
+abbrev pub least_on : List ℕ → TrackKey
 least_on topic = track_at topic [] 0 0

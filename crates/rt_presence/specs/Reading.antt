@@ -1,5 +1,5 @@
--- How a client reads the trees of presence messages (the Realtime protocol, "Presence"): it holds the metas of a state, then from each difference its joins
--- are added and its leaves removed by `phx_ref`.
+-- How a client reads the trees of presence messages (the Realtime protocol, "Presence"): it holds the metas of a state,
+-- then from each difference its joins are added and its leaves removed by `phx_ref`.
 use Rattle.std.specs.Prelude.{ℕ, not, Bool, List, [], ◌++◌, map, filter, codes, unwrap_or}
 use Rattle.std.specs.List.{flat_map, list_any}
 use Rattle.std.specs.Str.{bytes_eq}
@@ -27,4 +27,5 @@ abbrev pub is_among : List Held → Held → Bool
 is_among held h = list_any (λ g. bytes_eq (reference_of g) (reference_of h)) held
 
 abbrev pub after_difference : List Held → Json → List Held
-after_difference held tree = filter (λ h. not (is_among (part_of (codes "leaves") tree) h)) (held ++ part_of (codes "joins") tree)
+after_difference held tree = filter (λ h. not (is_among (part_of (codes "leaves") tree) h))
+    (held ++ part_of (codes "joins") tree)

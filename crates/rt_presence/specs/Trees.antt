@@ -15,7 +15,7 @@ use Rattle.rt_json.specs.Lookup.{members_of}
 use Rattle.rt_json.specs.Trees.{field}
 use Rattle.rt_presence.specs.declared.differences.Meta.{Meta}
 use Rattle.rt_presence.specs.declared.differences.Diff.{Diff}
-use Rattle.rt_presence.specs.Tracks.{Standing, meta_of}
+use Rattle.rt_presence.specs.Tracks.{Tracked, meta_of}
 
 -- a key, and a meta under it
 abbrev pub Held : Type 0
@@ -27,7 +27,8 @@ is_kept m = not (bytes_eq m.name (codes "phx_ref"))
 
 -- the track's number as `phx_ref`, then the tracked object's members but one of that name
 abbrev pub meta_object : ℕ → Json → Json
-meta_object reference tree = j.Object (field (codes "phx_ref") (Text (decimal reference)) ∷ filter is_kept (members_of tree))
+meta_object reference tree = j.Object
+    (field (codes "phx_ref") (Text (decimal reference)) ∷ filter is_kept (members_of tree))
 
 abbrev pub meta_tree : Meta → Json
 meta_tree m = meta_object m.reference m.tree
@@ -47,17 +48,18 @@ metas_tree held = j.Object (map (metas_of held) (in_order (slice_cmp nat_cmp) (m
 
 -- who joined and who left, as one tree
 abbrev pub joins_and_leaves : List Held → List Held → Json
-joins_and_leaves joins leaves = j.Object (field (codes "joins") (metas_tree joins) ∷ field (codes "leaves") (metas_tree leaves) ∷ [])
+joins_and_leaves joins leaves =
+    j.Object (field (codes "joins") (metas_tree joins) ∷ field (codes "leaves") (metas_tree leaves) ∷ [])
 
-abbrev pub shown : Standing → Held
-shown t = (t.0.key, meta_tree (meta_of t))
+abbrev pub held_of : Tracked → Held
+held_of t = (t.0.key, meta_tree (meta_of t))
 
-abbrev pub on_topic : List ℕ → List Standing → List Standing
+abbrev pub on_topic : List ℕ → List Tracked → List Tracked
 on_topic topic tracks = filter (λ t. bytes_eq t.0.topic topic) tracks
 
 -- what is present on a topic; as the tracks are in order, the metas of a key are in order of their numbers
-abbrev pub state_tree : List Standing → List ℕ → Json
-state_tree tracks topic = metas_tree (map shown (on_topic topic tracks))
+abbrev pub state_tree : List Tracked → List ℕ → Json
+state_tree tracks topic = metas_tree (map held_of (on_topic topic tracks))
 
 abbrev pub under : List ℕ → Meta → Held
 under key m = (key, meta_tree m)

@@ -12,5 +12,5 @@ mod trees;
 
 pub use differences::{Diff, Meta};
 pub use present::Presence;
-pub use tracks::Track;
+pub use tracks::TrackKey;
 pub use trees::difference_tree;

@@ -1,19 +1,20 @@
-//! The maps that keep who is present. A change of both leaves the tracks as they were where memory runs out.
+//! The maps that keep who is present. A change of both leaves the tracks as they were where memory
+//! runs out.
 ghost use Rattle.std.specs.Prelude.{◌≡◌, IfOk, OnOk, OnErr};
 ghost use Rattle.std.specs.BTreeMap.{insert_entry};
 ghost use Rattle.rt_presence.specs.Tracks.{without_channel, with_track};
 ghost use Rattle.rt_presence.specs.Index.{IsIndexed, place_of};
 
-use crate::tracks::{Place, Track};
+use crate::tracks::{Place, TrackKey};
 use rt_json::Json;
 use std::alloc::{AllocError, Global};
 use std::collections::BTreeMap;
 
 /// The tree of each track.
-pub type Tracks = BTreeMap<Track, Json>;
+pub type Tracks = BTreeMap<TrackKey, Json>;
 
 /// The track of each channel on each topic.
-pub type Places = BTreeMap<Place, Track>;
+pub type Places = BTreeMap<Place, TrackKey>;
 
 /// What is copied with memory of a given allocator.
 pub trait Copies: Drop {
@@ -27,9 +28,9 @@ impl Copies for Json {
     }
 }
 
-impl Copies for Track {
+impl Copies for TrackKey {
     fn copied(&self, alloc: Global) -> Result<Self, AllocError> {
-        Ok(Track {
+        Ok(TrackKey {
             topic: self.topic.copy(alloc)?,
             key: self.key.copy(alloc)?,
             reference: self.reference,
@@ -92,8 +93,8 @@ pub fn put(
     tracks: &mut Tracks,
     places: &mut Places,
     place: Place,
-    track: Track,
-    held: Track,
+    track: TrackKey,
+    held: TrackKey,
     tree: Json,
 ) -> Result<(), AllocError>
     requires index { IsIndexed tracks.old.entries places.old.entries }

@@ -1,11 +1,11 @@
 ghost use Rattle.std.specs.Prelude.{◌≡◌, [], None, Some, map, option_map, IfOk, OnOk, OnErr};
 ghost use Rattle.rt_presence.specs.Tracks.{track_of, without_channel, with_track, track_at, meta_of, joining, leaving};
 ghost use Rattle.rt_presence.specs.Index.{least_on};
-ghost use Rattle.rt_presence.specs.Trees.{shown, on_topic, state_tree, groups_of};
+ghost use Rattle.rt_presence.specs.Trees.{held_of, on_topic, state_tree, groups_of};
 
 use crate::differences::{Diff, Meta};
 use crate::maps::{Copies, Places, Tracks, copied, put, take};
-use crate::tracks::{Place, Track};
+use crate::tracks::{Place, TrackKey};
 use crate::trees::{Group, groups_tree, meta_object, put_last};
 use rt_json::Json;
 use rt_value::Text;
@@ -25,12 +25,12 @@ pub struct Presence {
 
 impl Model for Presence {
     ghost use Rattle.std.specs.Prelude.{List};
-    ghost use Rattle.rt_presence.specs.Tracks.{Standing};
+    ghost use Rattle.rt_presence.specs.Tracks.{Tracked};
     ghost use Rattle.rt_presence.specs.Index.{IsIndexed};
     ghost use Rattle.rt_json.specs.contracts.tree.Json as tree;
     ghost use Rattle.std.specs.Coded.{codes};
 
-    ghost Value = { List Standing };
+    ghost Value = { List Tracked };
 
     ghost coded = { Prim.hlevel (codes, tree.the_row.coded) };
 
@@ -51,8 +51,8 @@ impl Presence {
         }
     }
 
-    /// An equal value, of which a change leaves this one as it is. Copies every track with its tree, so its time is that of putting
-    /// in as many tracks. Fails for want of memory alone.
+    /// An equal value, of which a change leaves this one as it is. Copies every track with its
+    /// tree, so its time is that of putting in as many tracks. Fails for want of memory alone.
     pub fn copy(&self) -> Result<Self, AllocError>
         ensures { IfOk result (λ p. p ≡ self.now) }
     {
@@ -64,7 +64,7 @@ impl Presence {
     }
 
     // The channel's track on the topic.
-    fn find(&self, place: &Place) -> Option<(&Track, &Json)>
+    fn find(&self, place: &Place) -> Option<(&TrackKey, &Json)>
         ensures { option_map (λ t. (t.0.now, t.1.now)) result ≡ track_of self.now place.now.topic place.now.channel }
     {
         match self.places.get(place) {
@@ -86,7 +86,7 @@ impl Presence {
         })
     }
 
-    fn meta(&self, track: &Track, tree: &Json) -> Result<Meta, AllocError>
+    fn meta(&self, track: &TrackKey, tree: &Json) -> Result<Meta, AllocError>
         ensures { IfOk result (λ m. m ≡ meta_of (track.now, tree.now)) }
     {
         Ok(Meta {
@@ -105,7 +105,7 @@ impl Presence {
         }
     }
 
-    fn joining(&self, place: &Place, track: &Track, tree: &Json) -> Result<Diff, AllocError>
+    fn joining(&self, place: &Place, track: &TrackKey, tree: &Json) -> Result<Diff, AllocError>
         ensures { IfOk result (λ d.
             d ≡ joining (track.now, tree.now) (track_of self.now place.now.topic place.now.channel)) }
     {
@@ -118,7 +118,7 @@ impl Presence {
         })
     }
 
-    fn leaving(&self, track: &Track, tree: &Json) -> Result<Diff, AllocError>
+    fn leaving(&self, track: &TrackKey, tree: &Json) -> Result<Diff, AllocError>
         ensures { IfOk result (λ d. d ≡ leaving (track.now, tree.now)) }
     {
         let left = self.meta(track, tree)?;
@@ -129,8 +129,9 @@ impl Presence {
         })
     }
 
-    /// The channel tracks the tree on the topic, under the key and with this number, in place of what it tracked there. Answers the
-    /// difference: the meta that joins, and the former one (which a channel tracks under one key).
+    /// The channel tracks the tree on the topic, under the key and with this number, in place of
+    /// what it tracked there. Answers the difference: the meta that joins, and the former one
+    /// (which a channel tracks under one key).
     ///
     /// Errors: memory ran out. Nothing has changed then.
     pub fn track(
@@ -147,7 +148,7 @@ impl Presence {
         ensures err { OnErr result (self.new ≡ self.old) }
     {
         let place = self.place(topic, channel)?;
-        let track = Track {
+        let track = TrackKey {
             topic: topic.copy(self.alloc)?,
             key: key.copy(self.alloc)?,
             reference,
@@ -159,7 +160,8 @@ impl Presence {
         Ok(difference)
     }
 
-    /// The channel tracks nothing on the topic from here on. Answers what leaves; None exactly where the channel tracked nothing there.
+    /// The channel tracks nothing on the topic from here on. Answers what leaves; None exactly
+    /// where the channel tracked nothing there.
     ///
     /// Errors: memory ran out. Nothing has changed then.
     pub fn untrack(&mut self, topic: &Text, channel: u32) -> Result<Option<Diff>, AllocError>
@@ -176,7 +178,8 @@ impl Presence {
         Ok(difference)
     }
 
-    /// The channel departs from the topic. Answers what leaves; None exactly where the channel tracked nothing there.
+    /// The channel departs from the topic. Answers what leaves; None exactly where the channel
+    /// tracked nothing there.
     ///
     /// Errors: memory ran out. Nothing has changed then.
     pub fn drop_channel(&mut self, topic: &Text, channel: u32) -> Result<Option<Diff>, AllocError>
@@ -187,10 +190,10 @@ impl Presence {
         self.untrack(topic, channel)
     }
 
-    fn least_on(&self, topic: &Text) -> Result<Track, AllocError>
+    fn least_on(&self, topic: &Text) -> Result<TrackKey, AllocError>
         ensures { IfOk result (λ t. t ≡ least_on topic.now) }
     {
-        Ok(Track {
+        Ok(TrackKey {
             topic: topic.copy(self.alloc)?,
             key: Text::new(String::new(self.alloc)),
             reference: 0,
@@ -200,7 +203,7 @@ impl Presence {
 
     // The metas of the topic's tracks by their keys.
     fn groups_on(&self, topic: &Text) -> Result<Vec<Group>, AllocError>
-        ensures { IfOk result (λ groups. groups.items ≡ groups_of (map shown (on_topic topic.now self.now))) }
+        ensures { IfOk result (λ groups. groups.items ≡ groups_of (map held_of (on_topic topic.now self.now))) }
     {
         let least = self.least_on(topic)?;
         let mut groups = Vec::new(self.alloc);
@@ -214,8 +217,8 @@ impl Presence {
         Ok(groups)
     }
 
-    /// The tree of a `presence_state` of the topic: the metas under each key, the keys in byte order and the metas of a key in order of
-    /// their numbers. Fails for want of memory alone.
+    /// The tree of a `presence_state` of the topic: the metas under each key, the keys in byte
+    /// order and the metas of a key in order of their numbers. Fails for want of memory alone.
     pub fn state(&self, topic: &Text) -> Result<Json, AllocError>
         ensures { IfOk result (λ tree. tree ≡ state_tree self.now topic.now) }
     {

@@ -148,7 +148,8 @@ fn last_group(
     }
 }
 
-/// Puts the meta behind those of the last key, where it is under that, and else under a key of its own.
+/// Puts the meta behind those of the last key, where it is under that, and else under a key of its
+/// own.
 pub fn put_last(
     alloc: Global,
     groups: &mut Vec<Group>,
@@ -209,7 +210,8 @@ fn leaves(alloc: Global, differences: &[Diff]) -> Result<Json, AllocError>
     metas_tree(alloc, held)
 }
 
-/// The tree of a `presence_diff`: the metas that join and those that leave. Fails for want of memory alone.
+/// The tree of a `presence_diff`: the metas that join and those that leave. Fails for want of
+/// memory alone.
 pub fn difference_tree(alloc: Global, differences: &[Diff]) -> Result<Json, AllocError>
     ensures { IfOk result (λ tree. tree ≡ difference_tree differences.now) }
 {

@@ -10,7 +10,8 @@ loop-key-preserved g c =
     let k = c.in-Some.key.now in
     let v = c.in-Some.value.now in
     let behind = c.next.new.self in
-    let all : es ++ (k, v) ∷ behind ≡ c.args.map.now.entries = ap (λ rest. es ++ rest) (sym c.in-Some.ensures.steps) ∙ c.loop-key.invariant in
+    let all : es ++ (k, v) ∷ behind ≡ c.args.map.now.entries = ap (λ rest. es ++ rest) (sym c.in-Some.ensures.steps)
+    ∙ c.loop-key.invariant in
     let ordered = c.into_iter-key-iterator.ensures.into_iter_gives.5 in
     let rising : IsRising cmp (es ++ (k, v) ∷ behind) = subst (λ all_of. IsRising cmp all_of) (sym all) ordered in
     let put : c.insert.new.map.entries ≡ insert_entry cmp es k v =

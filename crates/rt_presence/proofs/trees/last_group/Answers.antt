@@ -10,7 +10,8 @@ returns-then-eq c =
     let key = c.args.key.now in
     let rest = c.pop.new.self.items in
     let same : bytes_eq c.in-Some.last key ≡ true =
-    ap (λ (xs : List ℕ). bytes_eq xs key) (sym c.get.ensures.bytes) ∙ ap (bytes_eq c.get.result.now) (sym c.get-in-Some.ensures.bytes) ∙ sym c.eq.ensures ∙ c.if-eq.true in
+    ap (λ (xs : List ℕ). bytes_eq xs key) (sym c.get.ensures.bytes)
+    ∙ ap (bytes_eq c.get.result.now) (sym c.get-in-Some.ensures.bytes) ∙ sym c.eq.ensures ∙ c.if-eq.true in
     λ (meta : Json).
     ap (λ (ms : List Json). rest ++ (c.in-Some.last, ms ++ meta ∷ []) ∷ []) c.into_inner.ensures
     ∙ put_same key meta rest c.in-Some.last c.in-Some.metas same
@@ -21,10 +22,14 @@ returns-in_ok-copy-in-Some c =
     let key = c.args.key.now in
     let rest = c.pop.new.self.items in
     let other : bytes_eq c.in-Some.last key ≡ false =
-    ap (λ (xs : List ℕ). bytes_eq xs key) (sym c.get.ensures.bytes) ∙ ap (bytes_eq c.get.result.now) (sym c.get-in-Some.ensures.bytes) ∙ sym c.eq.ensures ∙ c.if-eq.false in
+    ap (λ (xs : List ℕ). bytes_eq xs key) (sym c.get.ensures.bytes)
+    ∙ ap (bytes_eq c.get.result.now) (sym c.get-in-Some.ensures.bytes) ∙ sym c.eq.ensures ∙ c.if-eq.false in
     λ (meta : Json).
-    ap (λ (gs : Groups). gs ++ (c.in_ok-copy-in-Some.field-0, c.new-in-Some.result.items ++ meta ∷ []) ∷ []) c.in_ok-push-in-Some.ensures.items
-    ∙ ap (λ (k : List ℕ). (rest ++ (c.in-Some.last, c.in-Some.metas) ∷ []) ++ (k, c.new-in-Some.result.items ++ meta ∷ []) ∷ []) c.in_ok-copy-in-Some.ensures
-    ∙ ap (λ (ms : List Json). (rest ++ (c.in-Some.last, c.in-Some.metas) ∷ []) ++ (key, ms ++ meta ∷ []) ∷ []) c.new-in-Some.ensures.items
+    ap (λ (gs : Groups). gs ++ (c.in_ok-copy-in-Some.field-0, c.new-in-Some.result.items ++ meta ∷ []) ∷ [])
+    c.in_ok-push-in-Some.ensures.items
+    ∙ ap (λ (k : List ℕ). (rest ++ (c.in-Some.last, c.in-Some.metas) ∷ [])
+    ++ (k, c.new-in-Some.result.items ++ meta ∷ []) ∷ []) c.in_ok-copy-in-Some.ensures
+    ∙ ap (λ (ms : List Json). (rest ++ (c.in-Some.last, c.in-Some.metas) ∷ []) ++ (key, ms ++ meta ∷ []) ∷ [])
+    c.new-in-Some.ensures.items
     ∙ put_other key meta rest c.in-Some.last c.in-Some.metas other
     ∙ ap (λ (gs : Groups). put_last (key, meta) gs) (sym c.in-Some.ensures.items)

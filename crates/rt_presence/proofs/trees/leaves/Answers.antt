@@ -9,4 +9,5 @@ loop-difference-preserved c =
     let d = c.difference-item.result in
     c.in_ok-put_held.ensures
     ∙ ap (λ (hs : List Held). hs ++ option_to_list (option_map (under d.key) d.left)) c.loop-difference.invariant
-    ∙ sym (picked_more (λ (x : Diff). option_map (under x.key) x.left) c.args.differences.now c.loop-difference.difference-index d (omega arith) c.difference-item.is)
+    ∙ sym (picked_more (λ (x : Diff). option_map (under x.key) x.left) c.args.differences.now
+    c.loop-difference.difference-index d (omega arith) c.difference-item.is)

@@ -9,4 +9,6 @@ use Rattle.rt_presence.proofs.trees.metas_tree.Goals as goal
 pub returns : goal.returns
 returns c =
     ap (λ (ms : List Member). j.Object ms)
-    (c.new.ensures ∙ c.in_ok-members.ensures ∙ ap (map (λ (g : List ℕ × List Json). metas_member g.0 (reverse g.1))) c.in_ok-groups.ensures ∙ members_are c.args.held.items)
+    (c.new.ensures ∙ c.in_ok-members.ensures
+    ∙ ap (map (λ (g : List ℕ × List Json). metas_member g.0 (reverse g.1))) c.in_ok-groups.ensures
+    ∙ members_are c.args.held.items)

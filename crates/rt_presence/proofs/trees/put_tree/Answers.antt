@@ -8,4 +8,5 @@ use Rattle.rt_presence.proofs.trees.put_tree.Goals as goal
 pub returns-in-Object : goal.returns-in-Object
 returns-in-Object c =
     let same = c.get.ensures ∙ sym (ap members_of c.in-Object.is ∙ object_members c.in-Object.members) in
-    subst (λ (ms : List Member). OnOk c.put_members.result (c.put_members.new.out.items ≡ c.args.out.now.items ++ filter is_kept ms)) same c.put_members.ensures
+    subst (λ (ms : List Member). OnOk c.put_members.result (c.put_members.new.out.items ≡ c.args.out.now.items
+    ++ filter is_kept ms)) same c.put_members.ensures

@@ -1,5 +1,5 @@
 use Rattle.std.proofs.Common.{◌≡◌, [], map}
-use Rattle.rt_presence.specs.Trees.{shown, on_topic}
+use Rattle.rt_presence.specs.Trees.{held_of, on_topic}
 use Rattle.rt_presence.proofs.Neighbours.{all_put}
 use Rattle.rt_presence.proofs.Walks.{Ahead}
 use Rattle.rt_presence.proofs.present.Presence.groups_on.Given as goal
@@ -8,5 +8,6 @@ use Rattle.rt_presence.proofs.present.Presence.groups_on.Given as goal
 abbrev pub invariant-loop-track : goal.invariant-loop-track
 invariant-loop-track l = record {
   ahead : Ahead l.topic l.track-iterator;
-  all : all_put (map shown (on_topic l.topic l.track-iterator)) l.groups.items ≡ all_put (map shown (on_topic l.topic l.self)) [];
+  all : all_put (map held_of (on_topic l.topic l.track-iterator)) l.groups.items
+      ≡ all_put (map held_of (on_topic l.topic l.self)) [];
 }

@@ -1,0 +1,16 @@
+pub mod Fans
+pub mod Grows
+pub mod Ids
+pub mod Journals
+pub mod Keeping
+pub mod Marks
+pub mod Once
+pub mod Opens
+pub mod PlainParts
+pub mod Present
+pub mod Shapes
+pub mod Slots
+pub mod Sound
+pub mod Stops
+pub mod Tracked
+pub mod Unique

@@ -1,0 +1,8 @@
+//! Laws of the journal, each on a function that does nothing: what the next input finds by what
+//! this one found and did, who is a member, what is present, and what stands in the lanes.
+
+mod lanes;
+mod stories;
+
+pub use lanes::{entries_give, lanes_fan_out, lanes_grow, marks_stay, stops_are_marked};
+pub use stories::{ids_rise, members_are_apart, slots_are_open, story_grows, tracks_are_apart};

@@ -1,5 +1,0 @@
-use Rattle.rt_laws.proofs.Fans.{entries_give, entries_answer, entries_stay}
-use Rattle.rt_laws.proofs.lanes.entries_give.Goals as goal
-
-pub returns : goal.returns
-returns c = record { give = entries_give; answer = entries_answer; stay = entries_stay }
