@@ -1,46 +1,91 @@
-//! The same inserts and walks on std's `BTreeMap`, whose snapshot is a clone.
+//! The same changes, look-ups and walks on std's `BTreeMap`, which no snapshot is taken of.
 //!
-//! Prints a line for each number of entries among the arguments: the entries, then in nanoseconds an
-//! insert, a snapshot with its drop, and a walk of all entries.
+//! Prints a line for each number of entries among the arguments: the entries, then in nanoseconds, each
+//! the best of several rounds, a change, a look-up and a whole walk. Behind the argument `fill` maps are
+//! only filled.
 
 use std::collections::BTreeMap;
 use std::hint::black_box;
 use std::sync::Arc;
 use std::time::Instant;
 
-const MEASURED: u64 = 1_000;
+const ROUNDS: u64 = 9;
 
-fn put(map: &mut BTreeMap<Arc<u64>, Arc<u64>>, number: u64) {
-    let key = number.wrapping_mul(0x9e37_79b9_7f4a_7c15);
-    map.insert(Arc::new(key), Arc::new(number));
+const MEASURED: u64 = 2_000;
+
+type Map = BTreeMap<Arc<u64>, Arc<u64>>;
+
+fn scattered(number: u64) -> u64 {
+    number.wrapping_mul(0x9e37_79b9_7f4a_7c15)
 }
 
-fn measure(entries: u64) {
+fn put(map: &mut Map, number: u64) {
+    map.insert(Arc::new(scattered(number)), Arc::new(number));
+}
+
+fn filled(entries: u64) -> Map {
     let mut map = BTreeMap::new();
     for number in 0..entries {
         put(&mut map, number);
     }
+    map
+}
+
+fn time_changes(map: &mut Map, entries: u64, from: u64) -> u128 {
     let start = Instant::now();
-    for number in 0..MEASURED {
-        put(&mut map, entries + number);
+    for number in from..from + MEASURED {
+        map.remove(&scattered(number));
+        put(map, entries + number);
     }
-    let insert = start.elapsed().as_nanos() / u128::from(MEASURED);
-    // A clone is linear, so few are timed where the map is large.
-    let clones = (10_000_000 / entries).clamp(5, MEASURED);
+    start.elapsed().as_nanos() / u128::from(2 * MEASURED)
+}
+
+fn time_look_ups(map: &Map, from: u64) -> u128 {
+    let mut sum = 0u64;
     let start = Instant::now();
-    for _ in 0..clones {
-        black_box(map.clone());
+    for number in from..from + MEASURED {
+        if let Some(value) = map.get(&scattered(number)) {
+            sum = sum.wrapping_add(**value);
+        }
     }
-    let snapshot = start.elapsed().as_nanos() / u128::from(clones);
-    let start = Instant::now();
-    let sum = map.values().fold(0u64, |sum, value| sum.wrapping_add(**value));
     black_box(sum);
-    let walk = start.elapsed().as_nanos();
-    println!("{entries} {insert} {snapshot} {walk}");
+    start.elapsed().as_nanos() / u128::from(MEASURED)
+}
+
+fn time_walk(map: &Map) -> u128 {
+    let start = Instant::now();
+    let mut sum = 0u64;
+    for (_, value) in map {
+        sum = sum.wrapping_add(**value);
+    }
+    black_box(sum);
+    start.elapsed().as_nanos()
+}
+
+fn measure(entries: u64) {
+    let mut map = filled(entries);
+    let (mut change, mut look_up, mut walk) = (u128::MAX, u128::MAX, u128::MAX);
+    for round in 0..ROUNDS {
+        let from = round * MEASURED;
+        change = change.min(time_changes(&mut map, entries, from));
+        look_up = look_up.min(time_look_ups(&map, from + MEASURED));
+        walk = walk.min(time_walk(&map));
+    }
+    println!("{entries} {change} {look_up} {walk}");
 }
 
 fn main() {
+    let mut only_fill = false;
     for arg in std::env::args().skip(1) {
-        measure(arg.parse().expect("a number of entries"));
+        if arg == "fill" {
+            only_fill = true;
+            continue;
+        }
+        let entries = arg.parse().expect("a number of entries");
+        if only_fill {
+            eprintln!("{}", filled(entries).len());
+        } else {
+            measure(entries);
+        }
     }
 }
