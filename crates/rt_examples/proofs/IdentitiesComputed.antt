@@ -1,6 +1,6 @@
 -- Computed but for what the policy is of the row, which goes by its folds.
 use Rattle.std.proofs.Common.{◌≡◌, ℕ, List, [], ◌∷◌, ◌++◌, map, ◌||◌, not, true, false, refl, ap, ◌∙◌, Bool}
-use Rattle.std.specs.Prelude.{pos, if◌then◌else◌, codes, Some, None}
+use Rattle.std.specs.Prelude.{pos, if◌then◌else◌, codes, Some}
 use Rattle.std.specs.List.{filter, filter_map}
 use Rattle.rt_value.specs.declared.value.Value.TheVariants as value
 use Rattle.rt_value.specs.declared.row.Row.{Row}

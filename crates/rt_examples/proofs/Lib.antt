@@ -2,6 +2,7 @@ mod CutsComputed
 mod DeletesComputed
 mod ErrorsComputed
 mod ExpiryComputed
+mod FacesComputed
 mod FiltersComputed
 mod FramesComputed
 mod IdentitiesComputed

@@ -1,5 +1,5 @@
 -- A binding with two filters: a change passes both, or isn't sent.
-use Rattle.std.specs.Prelude.{◌≡◌, ℕ, ℤ, List, [], ◌∷◌, ◌++◌, true, codes, Some, None, pos}
+use Rattle.std.specs.Prelude.{◌≡◌, ℕ, List, [], ◌∷◌, ◌++◌, true, codes, Some, None, pos}
 use Rattle.std.specs.Fmt.{decimal}
 use Rattle.rt_value.specs.declared.value.Value.TheVariants as value
 use Rattle.rt_value.specs.declared.edit.Edit.TheVariants.{Put}

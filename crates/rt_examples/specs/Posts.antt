@@ -1,5 +1,5 @@
 -- A post over HTTP: the channel of its topic gets the message, that of another topic doesn't, and claims that have run out say nothing.
-use Rattle.std.specs.Prelude.{◌≡◌, ℕ, List, [], ◌∷◌, ◌++◌, codes, Some}
+use Rattle.std.specs.Prelude.{◌≡◌, ℕ, List, [], ◌∷◌, codes, Some}
 use Rattle.rt_value.specs.declared.claims.Claims.{Claims}
 use Rattle.rt_json.specs.declared.tree.Json.{Num}
 use Rattle.rt_json.specs.declared.tree.Json.TheVariants.{Object}

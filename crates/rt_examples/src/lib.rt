@@ -15,6 +15,7 @@ ghost use Rattle.rt_examples.specs.Restrictive.{RestrictiveRefuses};
 ghost use Rattle.rt_examples.specs.Rooms.{MembersSeeRooms};
 ghost use Rattle.rt_examples.specs.Cuts.{CutIsGiven, CutIsShown};
 ghost use Rattle.rt_examples.specs.Expiry.{ChannelExpires};
+ghost use Rattle.rt_examples.specs.Faces.{LobbyIsBound, MomentIsShown, TreesAreShown};
 ghost use Rattle.rt_examples.specs.Filters.{BothFiltersPass, EmptyIsBad, NineAreTooMany};
 ghost use Rattle.rt_examples.specs.Identities.{IdentityIsBound, NoIdentityIsBound, IdentityIsShown, RowIsKept};
 ghost use Rattle.rt_examples.specs.Notes.{FirstRun};
@@ -122,6 +123,14 @@ pub fn statements()
     ensures second_role { SecondRoleIsRefused }
     ensures public_role { PublicIsNoRole }
     ensures unknown_column { UnknownColumnIsRefused }
+{}
+
+/// A moment is shown in UTC, and a text of a JSON column as its tree, in the data of an insert into
+/// a usual set's table.
+pub fn faces()
+    ensures moment { MomentIsShown }
+    ensures bound { LobbyIsBound }
+    ensures shown { TreesAreShown }
 {}
 
 /// What a usual set's statements mean, a ring of policies, and a hidden column: `select *` names
