@@ -4,6 +4,7 @@ mod CutsComputed
 mod DeletesComputed
 mod ErrorsComputed
 mod ExpiryComputed
+mod FacesComputed
 mod FiltersComputed
 mod FramesComputed
 mod GoneComputed

@@ -8,7 +8,9 @@ use Rattle.base64.specs.Decode.{groups_error, groups_bytes, scan_steps}
 use Rattle.rt_token.specs.Hmac.{hmac_sha256}
 use Rattle.rt_token.specs.Claims.{claims_in_tree}
 use Rattle.rt_token.specs.Tokens.{claims_in_token, signed_token}
+use Rattle.rt_value.specs.Calendar.{is_date, day_of, passed_years, months_and_day_at}
 use Rattle.rt_value.specs.Edits.{tables_after}
+use Rattle.rt_value.specs.Moments.{looks_like, two_at, day_in_text, clock, civil_in_text, fraction_in_text, is_zone, zone_in_text, instant_of, instant_in_text, moment_in_text, is_in_years, fraction_places, fraction_shown, date_shown, clock_shown, instant_shown, moment_shown}
 use Rattle.rt_json.specs.Computes.{json_computes}
 use Rattle.rt_phx.specs.Frame.{message_of}
 use Rattle.rt_phx.specs.Joins.{config_of}
@@ -64,3 +66,8 @@ hashes = tt
 unfoldable pub token_computes : Unit {0}
 unfolding claims_in_token signed_token claims_in_tree hashes base64
 token_computes = tt
+
+-- what a moment is read and shown with
+unfoldable pub moment_computes : Unit {0}
+unfolding is_date day_of passed_years months_and_day_at looks_like two_at day_in_text clock civil_in_text fraction_in_text is_zone zone_in_text instant_of instant_in_text moment_in_text is_in_years fraction_places fraction_shown date_shown clock_shown instant_shown moment_shown
+moment_computes = tt

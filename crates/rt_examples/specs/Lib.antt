@@ -5,6 +5,7 @@ pub mod Cuts
 pub mod Deletes
 pub mod Errors
 pub mod Expiry
+pub mod Faces
 pub mod Filters
 pub mod Folds
 pub mod Forms

@@ -24,6 +24,7 @@ ghost use Rattle.rt_examples.specs.Crowd.{FormerIsNotCounted, OneMoreIsRefused};
 ghost use Rattle.rt_examples.specs.Gone.{RowIsGone, BothAreDelivered};
 ghost use Rattle.rt_examples.specs.Cuts.{CutIsGiven, CutIsShown};
 ghost use Rattle.rt_examples.specs.Expiry.{ChannelExpires};
+ghost use Rattle.rt_examples.specs.Faces.{LobbyIsBound, MomentIsShown, TreesAreShown};
 ghost use Rattle.rt_examples.specs.Filters.{BothFiltersPass, EmptyIsBad, NineAreTooMany};
 ghost use Rattle.rt_examples.specs.Identities.{IdentityIsBound, NoIdentityIsBound};
 ghost use Rattle.rt_examples.specs.Identities.{IdentityIsShown, RowIsKept};
@@ -163,6 +164,14 @@ pub fn statements()
     ensures second_role { SecondRoleIsRefused }
     ensures public_role { PublicIsNoRole }
     ensures unknown_column { UnknownColumnIsRefused }
+{}
+
+/// A moment is shown in UTC, and a text of a JSON column as its tree, in the data of an insert into
+/// a usual set's table.
+pub fn faces()
+    ensures moment { MomentIsShown }
+    ensures bound { LobbyIsBound }
+    ensures shown { TreesAreShown }
 {}
 
 /// What a usual set's statements mean, a ring of policies, and a hidden column: `select *` names

@@ -3,7 +3,6 @@ use Rattle.std.proofs.Common.{◌≡◌, ℕ, Bool, false, not, cond, List, [], 
 use Rattle.std.specs.Prelude.{codes, option_map}
 use Rattle.std.specs.Str.{bytes_eq}
 use Rattle.rt_value.specs.Choice.{some_if}
-use Rattle.rt_filter.specs.declared.filter.Test.{Test}
 use Rattle.rt_filter.specs.declared.subscription.Wanted.TheVariants as wanted
 use Rattle.rt_catalog.specs.declared.catalog.Catalog.{Catalog}
 use Rattle.rt_catalog.specs.declared.catalog.Role.{Role}
@@ -14,7 +13,7 @@ use Rattle.rt_registry.specs.declared.fault.BindingWhy.{BindingWhy}
 use Rattle.rt_registry.specs.declared.fault.BindingWhy.TheVariants as why
 use Rattle.rt_registry.specs.declared.fault.RegistryFault.{RegistryFault}
 use Rattle.rt_registry.specs.declared.fault.RegistryFault.TheVariants.{UnknownRole}
-use Rattle.rt_registry.specs.Bindings.{◌>>◌, or_err, table_for, test_for, meaning_of_binding, at_count, all_from, within_limit, bindings_for}
+use Rattle.rt_registry.specs.Bindings.{◌>>◌, or_err, table_for, meaning_of_binding, at_count, all_from, within_limit, bindings_for}
 use Rattle.rt_form.specs.declared.catalogue.Column.{Column}
 use Rattle.rt_first.proofs.Bytes.{same_name}
 use Rattle.rt_first.proofs.Binds.{table_found}
