@@ -233,7 +233,7 @@ module _ (c : Catalog) (s : Settings) (room : 0 < s.capacity) where
 
   round_run : (w v : World) → Still w v → Still w (run c s (round c s) v)
   round_run w v h =
-      subst (Still w) (sym (run_append lane_steps (pairs every_slot) v))
+      subst (Still w) (sym (run_append c s lane_steps (pairs every_slot) v))
       (pair_run every_slot w (run c s lane_steps v) (lane_run lane_steps w v are_lane_steps h))
 
   -- the last round of a drain does nothing
