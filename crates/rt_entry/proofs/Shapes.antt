@@ -1,7 +1,7 @@
 -- What the parts of an input may be: at most one channel joins, under the input's number, or a member tracks; only
 -- members depart or are renewed.
-use Rattle.std.proofs.Common.{◌≡◌, ℕ, ◌+◌, ◌<◌, Bool, true, false, not, List, [], ◌∷◌, ◌++◌, map, Option, Some, None}
-use Rattle.std.proofs.Common.{refl, inl, inr, sym, ap, ◌∙◌, ◌||◌, cond}
+use Rattle.std.proofs.Common.{◌≡◌, ℕ, ◌+◌, ◌<◌, Bool, true, false, List, [], ◌∷◌, ◌++◌, map, Option, Some, None}
+use Rattle.std.proofs.Common.{refl, inl, inr, sym, ap, ◌∙◌, cond}
 use Rattle.std.specs.Prelude.{⊤, ◌==◌, codes, if◌then◌else◌, nat_lt, option_to_list, Ok, Err, find}
 use Rattle.std.specs.List.{filter, flat_map, list_any, enumerate_from}
 use Rattle.std.specs.Str.{bytes_eq}
@@ -20,7 +20,7 @@ use Rattle.rt_phx.specs.declared.message.Message.{Message}
 use Rattle.rt_phx.specs.declared.end.EndName.{EndName}
 use Rattle.rt_phx.specs.declared.end.EndName.TheVariants as end_name
 use Rattle.rt_phx.specs.Frame.{message_of, no_members}
-use Rattle.rt_phx.specs.Joins.{Config, config_of}
+use Rattle.rt_phx.specs.Joins.{config_of}
 use Rattle.rt_phx.specs.Says.{reply_ok, reply_error}
 use Rattle.rt_phx.specs.Asks.{Ask, leave, renew, track, untrack, unknown_presence, nothing, ask_of, is_heartbeat}
 use Rattle.rt_phx.specs.Asks.{is_join, is_channel_topic, name_in}
@@ -31,8 +31,7 @@ use Rattle.rt_filter.specs.declared.subscription.Subscription.{Subscription}
 use Rattle.rt_catalog.specs.declared.catalog.Catalog.{Catalog}
 use Rattle.rt_change.specs.declared.change.Change.{Change}
 use Rattle.rt_change.specs.Verdicts.{is_truncate}
-use Rattle.rt_registry.specs.declared.binding.Subscribed.{Subscribed}
-use Rattle.rt_registry.specs.Bindings.{role_for, bindings_for}
+use Rattle.rt_registry.specs.Bindings.{bindings_for}
 use Rattle.rt_entry.specs.declared.input.Input.{Input}
 use Rattle.rt_entry.specs.declared.input.Input.TheVariants.{Opened, Frame, Gone, Poll, Tick, Stop, Post}
 use Rattle.rt_entry.specs.declared.input.Settings.{Settings}
@@ -47,8 +46,8 @@ use Rattle.rt_entry.specs.declared.entry.ChannelView.{ChannelView}
 use Rattle.rt_entry.specs.Story.{Now, departed_in, has}
 use Rattle.rt_entry.specs.Messages.{subscribed_message, presence_state, joined_response}
 use Rattle.rt_entry.specs.Joining.{Checked, ◌>>◌, or_why, demand, told_by, registry_text, channel_limit, binding_of}
-use Rattle.rt_entry.specs.Joining.{key_of, join_ref_of, asked_claims, channel_of_join, renewal_of, standing_for}
-use Rattle.rt_entry.specs.Joining.{is_as_private, has_presence, made_channel}
+use Rattle.rt_entry.specs.Joining.{asked_claims, channel_of_join, renewal_of, standing_for}
+use Rattle.rt_entry.specs.Joining.{is_as_private, made_channel}
 use Rattle.rt_entry.specs.Doings.{tell, in_turn, opening_in, is_of_slot, is_on, channels_of, channel_on, track_of}
 use Rattle.rt_entry.specs.Doings.{watches, diff_to, diffs, leave_diffs, depart, end_of, end_if_open, close, fail}
 use Rattle.rt_entry.specs.Doings.{tell_if, open_parts, has_bindings, present_on, join_result_parts, others}
