@@ -1,5 +1,5 @@
 -- What parts of an input that are plain or quiet leave, and what an input's parts leave by their shape.
-use Rattle.std.proofs.Common.{◌≡◌, ◌⊎◌, ℕ, ◌+◌, ◌<◌, ◌≤◌, Bool, true, false, ◌||◌, List, [], ◌∷◌, ◌++◌}
+use Rattle.std.proofs.Common.{◌≡◌, ◌⊎◌, ℕ, ◌<◌, ◌≤◌, Bool, true, false, ◌||◌, List, [], ◌∷◌, ◌++◌}
 use Rattle.std.proofs.Common.{Some, refl, sym, ap, ◌∙◌, append-nil, arith, inl, inr}
 use Rattle.std.proofs.Common.{eqb}
 use Rattle.std.specs.Prelude.{◌==◌}
@@ -45,7 +45,8 @@ plain_has b n m (Untracks k ∷ ps) le h = plain_has b n m ps le h.1
 plain_has b n m (Departs k ∷ ps) le h = let lt = h.0 in let e : eqb k m ≡ false = grind (arith, nat_tests) in
     rw e (plain_has b n m ps le h.1)
 
-pub plain_renews : (b : Bool) (n m : ℕ) (ps : List Part) → n ≤ m → AllOf (Plain b n) ps → filter_map (renewed_by m) ps ≡ []
+pub plain_renews : (b : Bool) (n m : ℕ) (ps : List Part) → n ≤ m → AllOf (Plain b n) ps → filter_map (renewed_by m) ps
+    ≡ []
 plain_renews b n m [] le h = refl
 plain_renews b n m (Opens s o ∷ ps) le h = plain_renews b n m ps le h.1
 plain_renews b n m (Ends s e ∷ ps) le h = plain_renews b n m ps le h.1
@@ -109,7 +110,8 @@ pub has_append : (m : ℕ) (ps qs : List Part)
 has_append m ps qs = ap (has m) (filter_map-append departed_by ps qs)
     ∙ any_append (λ j. j == m) (departed_in ps) (departed_in qs)
 
-pub around_has : (b : Bool) (n m : ℕ) (front : List Part) (p : Part) (back : List Part) → n ≤ m → AllOf (Plain b n) front
+pub around_has : (b : Bool) (n m : ℕ) (front : List Part) (p : Part) (back : List Part) → n ≤ m → AllOf
+    (Plain b n) front
     → AllOf (Plain b n) back
     → departed_in (p ∷ back) ≡ departed_in back → has m (departed_in (front ++ p ∷ back)) ≡ false
 around_has b n m front p back le f g e =
@@ -117,7 +119,8 @@ around_has b n m front p back le f g e =
     ∙ ap (has m) e
     ∙ plain_has b n m back le g
 
-pub around_renews : (b : Bool) (n m : ℕ) (front : List Part) (p : Part) (back : List Part) → n ≤ m → AllOf (Plain b n) front
+pub around_renews : (b : Bool) (n m : ℕ) (front : List Part) (p : Part) (back : List Part) → n ≤ m → AllOf
+    (Plain b n) front
     → AllOf (Plain b n) back
     → filter_map (renewed_by m) (p ∷ back) ≡ filter_map (renewed_by m) back
     → filter_map (renewed_by m) (front ++ p ∷ back) ≡ []

@@ -1,7 +1,7 @@
 -- What the parts of an input may be: at most one channel joins, under the input's number, or a member tracks; only
 -- members depart or are renewed.
-use Rattle.std.proofs.Common.{◌≡◌, ℕ, ◌+◌, ◌<◌, Bool, true, false, not, List, [], ◌∷◌, ◌++◌, map, Option, Some, None}
-use Rattle.std.proofs.Common.{refl, inl, inr, sym, ap, ◌∙◌, ◌||◌, cond}
+use Rattle.std.proofs.Common.{◌≡◌, ℕ, ◌+◌, ◌<◌, Bool, true, false, List, [], ◌∷◌, ◌++◌, map, Option, Some, None}
+use Rattle.std.proofs.Common.{refl, inl, inr, sym, ap, ◌∙◌, cond}
 use Rattle.std.specs.Prelude.{⊤, ◌==◌, codes, if◌then◌else◌, nat_lt, option_to_list, Ok, Err, find}
 use Rattle.std.specs.List.{filter, flat_map, list_any, enumerate_from}
 use Rattle.std.specs.Str.{bytes_eq}
@@ -46,8 +46,8 @@ use Rattle.rt_entry.specs.declared.entry.ChannelView.{ChannelView}
 use Rattle.rt_entry.specs.Story.{Now, departed_in, has}
 use Rattle.rt_entry.specs.Messages.{subscribed_message, presence_state, joined_response}
 use Rattle.rt_entry.specs.Joining.{Checked, ◌>>◌, or_why, demand, told_by, registry_text, channel_limit, binding_of}
-use Rattle.rt_entry.specs.Joining.{key_of, join_ref_of, asked_claims, channel_of_join, renewal_of, standing_for}
-use Rattle.rt_entry.specs.Joining.{is_as_private, has_presence, made_channel}
+use Rattle.rt_entry.specs.Joining.{asked_claims, channel_of_join, renewal_of, standing_for}
+use Rattle.rt_entry.specs.Joining.{is_as_private, made_channel}
 use Rattle.rt_entry.specs.Doings.{tell, in_turn, opening_in, is_of_slot, is_on, channels_of, channel_on, track_of}
 use Rattle.rt_entry.specs.Doings.{watches, diff_to, diffs, leave_diffs, depart, end_of, end_if_open, close, fail}
 use Rattle.rt_entry.specs.Doings.{tell_if, open_parts, has_bindings, present_on, join_result_parts, others}

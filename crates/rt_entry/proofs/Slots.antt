@@ -1,5 +1,5 @@
 -- The slot of each member is open, after every journal.
-use Rattle.std.proofs.Common.{◌≡◌, ◌⊎◌, Bool, true, false, not, List, [], ◌∷◌, ◌++◌, length, ℕ, ◌<◌, refl, sym, ap}
+use Rattle.std.proofs.Common.{◌≡◌, ◌⊎◌, false, List, [], ◌∷◌, ◌++◌, length, ℕ, ◌<◌, sym, ap}
 use Rattle.std.proofs.Common.{subst, ◌∙◌, append-nil, inl, inr}
 use Rattle.std.specs.Prelude.{⊤, Contains}
 use Rattle.std.specs.List.{filter}

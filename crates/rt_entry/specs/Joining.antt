@@ -1,6 +1,6 @@
 -- Whether a join or a renewal is accepted, and what it makes of the channel; or the first reason against it (the
 -- Realtime protocol, "Joining a channel"; the reasons' texts are this project's).
-use Rattle.std.specs.Prelude.{ℕ, ◌+◌, nat_lt, Bool, true, false, ◌&&◌, not, List, [], ◌++◌, map, codes, Option, Some}
+use Rattle.std.specs.Prelude.{ℕ, ◌+◌, nat_lt, Bool, true, false, ◌&&◌, List, [], ◌++◌, map, codes, Option, Some}
 use Rattle.std.specs.Prelude.{None, is_none, is_some, Result, Ok, Err}
 use Rattle.std.specs.Fmt.{decimal}
 use Rattle.std.specs.Str.{bytes_eq}

@@ -6,7 +6,6 @@ use Rattle.std.specs.Fmt.{decimal}
 use Rattle.std.specs.Str.{bytes_eq}
 use Rattle.std.proofs.lemmas.Bool.Decides.{nat_tests}
 use Rattle.std.proofs.lemmas.Str.{IsUtf8-append}
-use Rattle.std.specs.List.{filter}
 use Rattle.std.proofs.lemmas.Bool.{and_parts}
 use Rattle.rt_value.specs.declared.claims.Claims.{Claims}
 use Rattle.rt_value.specs.declared.row.Row.{Row}
@@ -49,7 +48,7 @@ use Rattle.rt_entry.specs.declared.story.Channel.{Channel}
 use Rattle.rt_entry.specs.declared.story.Member.{Member}
 use Rattle.rt_entry.specs.Joining.{Checked, ◌>>◌, or_why, demand, told_by, registry_text, channel_limit, binding_of}
 use Rattle.rt_entry.specs.Joining.{key_of, join_ref_of, asked_claims, unless, is_as_private, denied, standing_for}
-use Rattle.rt_entry.specs.Joining.{has_presence, channel_of_join, renewal_of, made_channel}
+use Rattle.rt_entry.specs.Joining.{channel_of_join, renewal_of, made_channel}
 use Rattle.rt_entry.specs.Story.{Now}
 use Rattle.rt_entry.specs.Readable.{IsReadable}
 use Rattle.rt_laws.proofs.Texts.{word, decimal_utf8, behind}

@@ -1,12 +1,11 @@
 -- What clients hold over whole journals.
-use Rattle.std.proofs.Common.{◌≡◌, ℕ, ◌<◌, ◌≤◌, Bool, true, false, List, [], ◌∷◌, ◌++◌, map, length, refl, sym, ap}
+use Rattle.std.proofs.Common.{◌≡◌, ◌<◌, ◌≤◌, Bool, true, false, List, [], ◌∷◌, ◌++◌, map, length, refl, sym, ap}
 use Rattle.std.proofs.Common.{subst, ◌∙◌, arith, inl, inr}
 use Rattle.std.specs.Prelude.{◌^◌, nat_le}
 use Rattle.std.specs.List.{filter}
 use Rattle.std.specs.Str.{bytes_eq}
 use Rattle.std.proofs.lemmas.Bool.Decides.{leb_tells}
 use Rattle.rt_value.proofs.Among.{Among, from_contains, map_among}
-use Rattle.rt_value.proofs.Plain.{all_among}
 use Rattle.rt_value.proofs.Moves.{Moves, permuted}
 use Rattle.rt_phx.specs.declared.message.Message.{Message}
 use Rattle.rt_presence.specs.Trees.{Held}
@@ -25,13 +24,12 @@ use Rattle.rt_entry.specs.Presence.{client_view, told_since, ClientsAgree}
 use Rattle.rt_entry.specs.After.{joins_of, tracks_after, done_by}
 use Rattle.rt_laws.specs.Departures.{heard}
 use Rattle.rt_laws.specs.Follows.{IsNoStop}
-use Rattle.rt_entry.proofs.Sound.{IsBelow, members_in, members_apart, members_below, held_below}
+use Rattle.rt_entry.proofs.Sound.{members_in, members_apart, held_below}
 use Rattle.rt_entry.proofs.Journals.{story_shaped}
 use Rattle.rt_laws.proofs.Turns.{view_append}
 use Rattle.rt_entry.proofs.Opens.{stop_has}
 use Rattle.rt_laws.proofs.Starts.{starts}
 use Rattle.rt_laws.proofs.Clients.{tracks_next, held_after}
-use Rattle.rt_entry.proofs.Journals.{story_length}
 use Rattle.rt_entry.proofs.Slots.{Either, either, joins_numbered, member_number, none_first, open_slots}
 
 module _ (c : Catalog) (s : Settings) where

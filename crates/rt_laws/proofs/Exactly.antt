@@ -1,7 +1,6 @@
 -- The push that put a cut there, and who tells changes.
-use Rattle.std.proofs.Common.{◌≡◌, ◌⊎◌, ℕ, ◌≤◌, List, [], ◌∷◌, ◌++◌, refl, sym, ap, subst, ◌∙◌, append_assoc}
+use Rattle.std.proofs.Common.{◌≡◌, ℕ, List, [], ◌∷◌, ◌++◌, refl, sym, ap, subst, ◌∙◌, append_assoc}
 use Rattle.std.proofs.Common.{append-nil, arith, inl, inr}
-use Rattle.std.specs.Prelude.{Contains, codes}
 use Rattle.rt_value.proofs.Among.{Among, from_contains, among_either}
 use Rattle.rt_catalog.specs.declared.catalog.Catalog.{Catalog}
 use Rattle.rt_entry.specs.declared.input.Settings.{Settings}
@@ -11,7 +10,7 @@ use Rattle.rt_entry.specs.declared.answer.Answer.TheVariants as a
 use Rattle.rt_entry.specs.Answers.{answers}
 use Rattle.rt_entry.specs.Doings.{story}
 use Rattle.rt_entry.specs.Headline.{IsOwnCut}
-use Rattle.rt_entry.specs.Machine.{World, Cut, start, run, step_of, outbox, messages_in}
+use Rattle.rt_entry.specs.Machine.{World, Cut, start, run, step_of}
 use Rattle.rt_laws.specs.Exact.{OnlyPollsTellChanges, slot_after, IsPut, CutsArePut}
 use Rattle.rt_laws.proofs.Allowed.{polled}
 use Rattle.rt_entry.proofs.Journals.{shape_next, story_shaped}

@@ -9,7 +9,7 @@ use Rattle.std.proofs.lemmas.List.Elements.{filter_map-append}
 use Rattle.std.proofs.lemmas.Slice.Eq.{bytes_eq-Decides}
 use Rattle.std.proofs.lemmas.Bool.{eqb-true, and_from, and_parts}
 use Rattle.rt_value.proofs.Among.{Among, from_contains, among_filter, filter_among}
-use Rattle.rt_value.proofs.Plain.{AllOf, all_filter, all_weaker, all_themselves, and_swap, filter_and, filter_same}
+use Rattle.rt_value.proofs.Plain.{AllOf, all_filter, all_weaker, all_themselves}
 use Rattle.rt_phx.specs.declared.message.Message.{Message}
 use Rattle.rt_phx.specs.declared.end.EndName.{EndName}
 use Rattle.rt_phx.specs.declared.end.EndName.TheVariants as end_name

@@ -1,5 +1,5 @@
 -- Posts whose claims have run out, and what a denial is.
-use Rattle.std.proofs.Common.{◌≡◌, Bool, true, false, ◌||◌, List, [], Option, Some, None, refl, ap, ◌∙◌}
+use Rattle.std.proofs.Common.{Bool, true, false, ◌||◌, List, [], Option, ap, ◌∙◌}
 use Rattle.std.specs.Prelude.{is_none}
 use Rattle.std.specs.List.{filter, filter_map, flat_map}
 use Rattle.rt_value.specs.Choice.{◌>>=◌, is_at}

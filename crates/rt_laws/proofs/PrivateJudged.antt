@@ -1,5 +1,5 @@
 -- A join that is accepted and a renewal were judged.
-use Rattle.std.proofs.Common.{◌≡◌, ℕ, ◌+◌, Bool, true, false, ◌&&◌, List, map, Option, Some, None, Ok, Err, refl, ap}
+use Rattle.std.proofs.Common.{◌≡◌, ℕ, Bool, true, List, map, Option, Some, None, Ok, Err, refl, ap}
 use Rattle.std.proofs.Common.{subst}
 use Rattle.std.specs.Prelude.{⊤, Result, codes, nat_lt, is_none}
 use Rattle.std.proofs.lemmas.Bool.{and_parts}
@@ -21,8 +21,8 @@ use Rattle.rt_entry.specs.declared.story.Standing.{Standing}
 use Rattle.rt_entry.specs.declared.story.Channel.{Channel}
 use Rattle.rt_entry.specs.Story.{Now}
 use Rattle.rt_entry.specs.Joining.{Checked, ◌>>◌, or_why, demand, told_by, registry_text, channel_limit, binding_of}
-use Rattle.rt_entry.specs.Joining.{key_of, join_ref_of, asked_claims, unless, is_as_private, denied, standing_for}
-use Rattle.rt_entry.specs.Joining.{has_presence, channel_of_join, renewal_of, made_channel}
+use Rattle.rt_entry.specs.Joining.{asked_claims, unless, is_as_private, denied, standing_for}
+use Rattle.rt_entry.specs.Joining.{channel_of_join, renewal_of, made_channel}
 use Rattle.rt_laws.specs.Private.{IsJudged, IsAdmitted}
 
 -- a value, where there is one, has something

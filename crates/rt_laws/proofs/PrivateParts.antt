@@ -8,8 +8,8 @@ use Rattle.std.proofs.lemmas.Slice.Eq.{bytes_eq-Decides}
 use Rattle.std.proofs.lemmas.Bool.{eqb-true}
 use Rattle.rt_value.specs.declared.claims.Claims.{Claims}
 use Rattle.rt_value.specs.declared.row.Row.{Row}
-use Rattle.rt_value.proofs.Among.{Among, among_filter}
-use Rattle.rt_value.proofs.Plain.{AllOf, Maybe, all_append, all_flat, all_map, all_map_of, all_weaker, all_themselves}
+use Rattle.rt_value.proofs.Among.{Among}
+use Rattle.rt_value.proofs.Plain.{AllOf, Maybe, all_append, all_flat, all_map, all_map_of, all_weaker}
 use Rattle.rt_value.proofs.Plain.{find_of}
 use Rattle.rt_token.specs.Claims.{is_expired}
 use Rattle.rt_token.specs.Asked.{seconds_of}

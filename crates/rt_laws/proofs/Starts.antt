@@ -12,10 +12,7 @@ use Rattle.rt_value.proofs.Among.{Among}
 use Rattle.rt_value.proofs.Plain.{AllOf, and_swap, filter_and, filter_same}
 use Rattle.rt_value.proofs.Moves.{Moves}
 use Rattle.rt_phx.specs.declared.message.Message.{Message}
-use Rattle.rt_phx.specs.declared.end.EndName.TheVariants as end_name
 use Rattle.rt_phx.specs.Says.{reply_ok}
-use Rattle.rt_phx.specs.Asks.{nothing}
-use Rattle.rt_phx.specs.Asks as ask
 use Rattle.rt_presence.specs.Trees.{Held, metas_tree}
 use Rattle.rt_presence.specs.Reading.{metas_in}
 use Rattle.rt_presence.proofs.ReadAgain.{read_again}

@@ -6,7 +6,7 @@ use Rattle.std.specs.List.{filter, flat_map}
 use Rattle.std.proofs.lemmas.Bool.Decides.{eqb_tells}
 use Rattle.std.proofs.lemmas.Bool.{eqb-true, not-true, or_parts}
 use Rattle.rt_value.specs.declared.row.Row.{Row}
-use Rattle.rt_value.proofs.Among.{Among, among_filter}
+use Rattle.rt_value.proofs.Among.{Among}
 use Rattle.rt_value.proofs.Plain.{AllOf, Maybe, all_append, all_map_of, all_weaker, all_themselves, any_append, find_of}
 use Rattle.rt_value.proofs.Plain.{all_flat}
 use Rattle.rt_value.specs.declared.claims.Claims.{Claims}

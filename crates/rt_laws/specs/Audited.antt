@@ -1,6 +1,6 @@
 -- What the audit says of a subscription is whether it is told of the change.
-use Rattle.std.specs.Prelude.{◌≡◌, ◌↔◌, ℕ, suc, true, List, map, Contains}
-use Rattle.std.specs.List.{filter, filter_map, flat_map, enumerate_from}
+use Rattle.std.specs.Prelude.{◌≡◌, ◌↔◌, ℕ, true, List, map, Contains}
+use Rattle.std.specs.List.{filter_map, flat_map, enumerate_from}
 use Rattle.rt_value.specs.declared.row.Row.{Row}
 use Rattle.rt_filter.specs.declared.subscription.Subscription.{Subscription}
 use Rattle.rt_catalog.specs.declared.catalog.Catalog.{Catalog}
@@ -13,9 +13,8 @@ use Rattle.rt_entry.specs.declared.input.Settings.{Settings}
 use Rattle.rt_entry.specs.declared.story.Member.{Member}
 use Rattle.rt_entry.specs.declared.answer.Answer.TheVariants.{Says}
 use Rattle.rt_entry.specs.declared.entry.ChannelView.{ChannelView}
-use Rattle.rt_entry.specs.Story.{now_of, tables_left}
 use Rattle.rt_entry.specs.Messages.{change_message}
-use Rattle.rt_entry.specs.Doings.{story, subscriptions, view_of, gets, change_parts_to_all}
+use Rattle.rt_entry.specs.Doings.{view_of, change_parts_to_all}
 use Rattle.rt_entry.specs.Answers.{Answers, answer_of, answers}
 use Rattle.rt_entry.specs.Audit.{Judged, judged_input}
 use Rattle.rt_entry.specs.Ids.{subscribed, judged_on, told_ids}

@@ -11,9 +11,8 @@ use Rattle.rt_entry.specs.declared.story.Opening.{Opening}
 use Rattle.rt_entry.specs.declared.story.Channel.{Channel}
 use Rattle.rt_entry.specs.declared.story.Member.{Member}
 use Rattle.rt_entry.specs.declared.story.Track.{Track}
-use Rattle.rt_entry.specs.Story.{Now, now_of}
 use Rattle.rt_entry.specs.Messages.{presence_diff}
-use Rattle.rt_entry.specs.Doings.{story, opening_in, channels_of, track_of}
+use Rattle.rt_entry.specs.Doings.{opening_in, channels_of, track_of}
 use Rattle.rt_entry.specs.Answers.{answers}
 use Rattle.rt_entry.specs.Presence.{said_to}
 use Rattle.rt_entry.specs.After.{found_by}

@@ -25,7 +25,7 @@ use Rattle.rt_entry.specs.declared.story.Track.{Track}
 use Rattle.rt_entry.specs.declared.story.Part.TheVariants.{Joins, Renews, Tracks}
 use Rattle.rt_entry.specs.declared.answer.Answer.TheVariants.{Says}
 use Rattle.rt_entry.specs.Joining.{denied}
-use Rattle.rt_entry.specs.Story.{Now, now_of, tables_left}
+use Rattle.rt_entry.specs.Story.{Now, tables_left}
 use Rattle.rt_entry.specs.Doings.{story, may_post}
 use Rattle.rt_entry.specs.Answers.{answers}
 use Rattle.rt_entry.specs.After.{done_by, found_by}
