@@ -1,5 +1,5 @@
 -- The change of a record under a catalogue, or the first reason why it has none (wal2json, format version 2).
-use Rattle.std.specs.Prelude.{◌≡◌, ℕ, ◌==◌, Bool, true, false, ◌&&◌, not, List, [], ◌∷◌, ◌++◌, map, length, slice_get, find, Option, Some, None, option_map, unwrap_or, Result, Ok, Err}
+use Rattle.std.specs.Prelude.{◌≡◌, ℕ, ◌==◌, Bool, true, false, ◌&&◌, not, List, [], ◌∷◌, ◌++◌, map, slice_get, find, Option, Some, None, option_map, unwrap_or, Result, Ok, Err}
 use Rattle.std.specs.List.{list_any, list_all, filter_map}
 use Rattle.std.specs.Str.{bytes_eq}
 use Rattle.rt_value.specs.declared.value.Value.{Value}
@@ -18,7 +18,7 @@ use Rattle.rt_wal.specs.declared.records.Record.{Record}
 use Rattle.rt_wal.specs.declared.records.Field.{Field}
 use Rattle.rt_wal.specs.declared.records.Action.{Action}
 use Rattle.rt_wal.specs.declared.records.Action.TheVariants as action
-use Rattle.rt_wal.specs.Records.{IsRecord}
+use Rattle.rt_wal.specs.Records.{IsRecordText}
 use Rattle.rt_catalog.specs.declared.catalog.Catalog.{Catalog}
 use Rattle.rt_catalog.specs.declared.catalog.Table.{Table}
 use Rattle.rt_catalog.specs.declared.catalog.Column.{Column}
@@ -122,9 +122,12 @@ verb_of action.Delete = Some Delete
 verb_of action.Truncate = Some Truncate
 verb_of _ = None
 
--- the same names, in whatever order; no name comes twice
+abbrev pub are_among : List (List ℕ) → List (List ℕ) → Bool
+are_among ns ms = list_all (λ n. list_any (bytes_eq n) ms) ns
+
+-- the same names, in whatever order: each of the one stands in the other
 abbrev pub same_names : List (List ℕ) → List (List ℕ) → Bool
-same_names ns ms = (length ns == length ms) && list_all (λ n. list_any (bytes_eq n) ms) ns
+same_names ns ms = are_among ns ms && are_among ms ns
 
 abbrev pub name_at : Table → ℕ → Option (List ℕ)
 name_at t n = option_map (λ col. col.name) (slice_get t.columns n)
@@ -235,9 +238,9 @@ change_of c r = bound_at c r (table_named c r.schema r.table) (verb_of r.action)
 abbrev pub IsBound : Catalog → Change → Type 0
 IsBound c ch = (r : Record) × (change_of c r ≡ Ok (bound.Change ch))
 
--- some line of a stream is a record of this change
+-- some line, without its end, is a record of this change
 pub record IsOfLine (c : Catalog) (ch : Change) : Type 0 where
   pub line : List ℕ
   pub entry : Record
-  pub is_record : IsRecord line entry
+  pub is_record : IsRecordText line entry
   pub gives : change_of c entry ≡ Ok (bound.Change ch)

@@ -4,7 +4,9 @@
 mod change;
 mod decision;
 mod fault;
+mod sharing;
 
 pub use change::{Bound, Change, Verb};
 pub use decision::{Denial, Verdict};
 pub use fault::ChangeFault;
+pub use sharing::changes_may_be_shared;

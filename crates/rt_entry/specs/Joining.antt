@@ -10,16 +10,15 @@ use Rattle.rt_value.specs.Tables.{rows_of_table}
 use Rattle.rt_json.specs.declared.tree.Json.{Json}
 use Rattle.rt_json.specs.Lookup.{member_of}
 use Rattle.rt_json.specs.Trees.{is_null}
-use Rattle.rt_token.specs.Asked.{claims_asked, seconds_of, fault_text}
+use Rattle.rt_token.specs.Asked.{claims_asked, asked_has_reason, seconds_of}
+use Rattle.rt_token.specs.Reasons.{or_text}
 use Rattle.rt_phx.specs.declared.message.Message.{Message}
 use Rattle.rt_phx.specs.Joins.{Asked, Config, config_of}
 use Rattle.rt_phx.specs.Asks.{name_in}
 use Rattle.rt_catalog.specs.declared.catalog.Catalog.{Catalog}
 use Rattle.rt_registry.specs.declared.binding.Binding.{Binding}
 use Rattle.rt_registry.specs.declared.binding.Subscribed.{Subscribed}
-use Rattle.rt_registry.specs.declared.fault.RegistryFault.{RegistryFault}
-use Rattle.rt_registry.specs.declared.fault.RegistryFault.TheVariants.{NoMemory, UnknownRole, Limit, BadBinding}
-use Rattle.rt_registry.specs.Bindings.{role_for, bindings_for, why_text}
+use Rattle.rt_registry.specs.Bindings.{Refusal, unknown_role, limit, bad_binding, role_for, bindings_for, why_text}
 use Rattle.rt_private.specs.Rights as private
 use Rattle.rt_private.specs.Rights.{Use, messages_of, denial}
 use Rattle.rt_entry.specs.declared.input.Settings.{Settings}
@@ -49,11 +48,10 @@ abbrev pub told_by : {A E : Type 0} → (E → List ℕ) → Result A E → Chec
 told_by text (Ok x) = Ok x
 told_by text (Err e) = Err (text e)
 
-abbrev pub registry_text : RegistryFault → List ℕ
-registry_text NoMemory = codes "out of memory"
-registry_text UnknownRole = codes "unknown role"
-registry_text (Limit n) = codes "too many bindings"
-registry_text (BadBinding n why) = codes "binding " ++ decimal n ++ codes ": " ++ why_text why
+abbrev pub registry_text : Refusal → List ℕ
+registry_text unknown_role = codes "unknown role"
+registry_text (limit n) = codes "too many bindings"
+registry_text (bad_binding n why) = codes "binding " ++ decimal n ++ codes ": " ++ why_text why
 
 -- the most channels of a slot
 abbrev pub channel_limit : ℕ
@@ -79,7 +77,9 @@ join_ref_of m = elim (is_null m.join_ref) [ true ↦ m.reference | false ↦ m.j
 
 -- the claims that a payload asks for, at the moment before it
 abbrev pub asked_claims : Settings → Now → Opening → Option Json → Checked Claims
-asked_claims s now o token = told_by fault_text (claims_asked s.secret (seconds_of now.moment) o.claims token)
+asked_claims s now o token =
+    let seconds = seconds_of now.moment in
+    or_text (claims_asked s.secret seconds o.claims token) (asked_has_reason s.secret seconds o.claims token)
 
 -- nothing, where there is no reason
 abbrev pub unless : Option (List ℕ) → Checked Bool

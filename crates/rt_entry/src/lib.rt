@@ -6,9 +6,11 @@ mod answer;
 mod entry;
 mod input;
 pub mod laws;
+mod sharing;
 mod story;
 
 pub use answer::{Answer, Item};
 pub use entry::{ChannelView, Entry};
 pub use input::{Input, Settings, Step};
+pub use sharing::handed_may_be_shared;
 pub use story::{Channel, Member, Opening, Part, Standing, Track};

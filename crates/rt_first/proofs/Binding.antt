@@ -11,9 +11,8 @@ use Rattle.rt_registry.specs.declared.binding.Binding.{Binding}
 use Rattle.rt_registry.specs.declared.binding.Subscribed.{Subscribed}
 use Rattle.rt_registry.specs.declared.fault.BindingWhy.{BindingWhy}
 use Rattle.rt_registry.specs.declared.fault.BindingWhy.TheVariants as why
-use Rattle.rt_registry.specs.declared.fault.RegistryFault.{RegistryFault}
-use Rattle.rt_registry.specs.declared.fault.RegistryFault.TheVariants.{UnknownRole}
-use Rattle.rt_registry.specs.Bindings.{◌>>◌, or_err, table_for, meaning_of_binding, at_count, all_from, within_limit, bindings_for}
+use Rattle.rt_registry.specs.Bindings.{Refusal, unknown_role, ◌>>◌, or_err, table_for, meaning_of_binding, at_count}
+use Rattle.rt_registry.specs.Bindings.{all_from, within_limit, bindings_for}
 use Rattle.rt_form.specs.declared.catalogue.Column.{Column}
 use Rattle.rt_first.proofs.Bytes.{same_name}
 use Rattle.rt_first.proofs.Binds.{table_found}
@@ -49,11 +48,11 @@ module _ (name : List ℕ) (first second : Column) (is_key : Bool) (role : List 
         ∙ ap (λ (o : Option ℕ). with_table (or_err why.Table o >> λ n. Ok (Some n))) (table_found name first second is_key role)
 
     abbrev Found : Type 0
-    Found = Result (List Subscribed) RegistryFault
+    Found = Result (List Subscribed) Refusal
 
     pub bindings_found : bindings_for cat (held_by role) (binding_with name ∷ []) ≡ Ok (subscribed_with name ∷ [])
     unfolding bindings_for
     bindings_found =
-        ap (λ (o : Option ℕ). let f : Found = or_err UnknownRole o >> λ number. within_limit (binding_with name ∷ []) >> λ _. all_from cat number 1 (binding_with name ∷ []) in f)
+        ap (λ (o : Option ℕ). let f : Found = or_err unknown_role o >> λ number. within_limit (binding_with name ∷ []) >> λ _. all_from cat number 1 (binding_with name ∷ []) in f)
         role_found
         ∙ ap (λ (o : Meant). let f : Found = at_count 1 o >> λ x. all_from cat 0 2 [] >> λ xs. Ok (x ∷ xs) in f) binding_means

@@ -109,8 +109,8 @@ module _ (name : List ℕ) (first second : Column) (is_key : Bool) (differ : fir
     cells = cells_for table fields
 
 -- the record names the table's key
-key_same : (key : List ℕ) → not ((bytes_eq key key || false) && true) ≡ false
-key_same key = ap (λ (b : Bool). not ((b || false) && true)) (same_name key)
+key_same : (key : List ℕ) → not (((bytes_eq key key || false) && true) && ((bytes_eq key key || false) && true)) ≡ false
+key_same key = ap (λ (b : Bool). not (((b || false) && true) && ((b || false) && true))) (same_name key)
 
 module _ (name : List ℕ) (first second : Column) (differ : first.name ≢ second.name) (one two : Json) where
   keys_agree : (size : ℕ) (is_key : Bool)

@@ -19,9 +19,7 @@ use Rattle.rt_value.specs.declared.row.Row.{Row}
 use Rattle.rt_catalog.specs.declared.catalog.Catalog.{Catalog}
 use Rattle.rt_private.specs.Rights.{messages_of, denial}
 use Rattle.rt_registry.specs.declared.binding.Subscribed.{Subscribed}
-use Rattle.rt_registry.specs.declared.fault.RegistryFault.{RegistryFault}
-use Rattle.rt_registry.specs.declared.fault.RegistryFault.TheVariants.{UnknownRole}
-use Rattle.rt_registry.specs.Bindings.{or_err, bindings_for}
+use Rattle.rt_registry.specs.Bindings.{Refusal, unknown_role, or_err, bindings_for}
 use Rattle.rt_entry.specs.declared.input.Settings.{Settings}
 use Rattle.rt_entry.specs.declared.story.Standing.{Standing}
 use Rattle.rt_entry.specs.declared.story.Channel.{Channel}
@@ -91,7 +89,7 @@ module _ (name : List ℕ) (first second : Column) (is_key : Bool) (role : List 
 
   abbrev from_role : ℕ → Option ℕ → Checked Channel
   from_role others o =
-      (told_by registry_text (or_err UnknownRole o) >> λ number. Ok (standing_with role number)) >> λ standing.
+      (told_by registry_text (or_err unknown_role o) >> λ number. Ok (standing_with role number)) >> λ standing.
       demand (nat_lt others channel_limit) (codes "too many channels") >> λ _.
       told_by registry_text (bindings_for cat (held_by role) (binding_with name ∷ [])) >> λ bindings. Ok (made standing bindings)
 
@@ -100,7 +98,7 @@ module _ (name : List ℕ) (first second : Column) (is_key : Bool) (role : List 
       demand b (codes "too many channels") >> λ _.
       told_by registry_text (bindings_for cat (held_by role) (binding_with name ∷ [])) >> λ bindings. Ok (made (standing_with role 0) bindings)
 
-  abbrev from_bindings : Result (List Subscribed) RegistryFault → Checked Channel
+  abbrev from_bindings : Result (List Subscribed) Refusal → Checked Channel
   from_bindings o = told_by registry_text o >> λ bindings. Ok (made (standing_with role 0) bindings)
 
   pub channel_made : (tables : List (List Row)) (others : ℕ) → nat_lt others channel_limit ≡ true

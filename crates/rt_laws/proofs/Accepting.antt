@@ -19,7 +19,8 @@ use Rattle.rt_json.specs.Lookup.{member_of}
 use Rattle.rt_json.specs.Trees.{is_null}
 use Rattle.rt_token.specs.declared.fault.TokenFault.{TokenFault}
 use Rattle.rt_token.specs.declared.fault.TokenFault.TheVariants as token
-use Rattle.rt_token.specs.Asked.{claims_asked, seconds_of, fault_text}
+use Rattle.rt_token.specs.Asked.{claims_asked, asked_has_reason, seconds_of}
+use Rattle.rt_token.specs.Reasons.{IsReason, HasReason, fault_text, or_text}
 use Rattle.rt_phx.specs.declared.message.Message.{Message}
 use Rattle.rt_phx.specs.Fits.{IsRef}
 use Rattle.rt_phx.specs.Joins.{Asked, config_of}
@@ -31,17 +32,15 @@ use Rattle.rt_registry.specs.declared.binding.Binding.{Binding}
 use Rattle.rt_registry.specs.declared.binding.Subscribed.{Subscribed}
 use Rattle.rt_registry.specs.declared.fault.BindingWhy.{BindingWhy}
 use Rattle.rt_registry.specs.declared.fault.BindingWhy.TheVariants as why
-use Rattle.rt_registry.specs.declared.fault.RegistryFault.{RegistryFault}
-use Rattle.rt_registry.specs.declared.fault.RegistryFault.TheVariants.{NoMemory, UnknownRole, Limit, BadBinding}
 use Rattle.rt_private.specs.declared.right.Messages.{Messages}
 use Rattle.rt_private.specs.declared.right.Right.{Right}
 use Rattle.rt_private.specs.declared.right.Right.TheVariants.{Yes, NoPrivilege, NoPolicy, NonePermits, Restrictive}
 use Rattle.rt_private.specs.Rights as private
 use Rattle.rt_private.specs.Rights.{Use, messages_of, right, policy_name, denial_text, denial}
 use Rattle.rt_registry.specs.Bindings as registry
-use Rattle.rt_registry.specs.Bindings.{role_for, bindings_for, why_text, wanted_of, table_for, tests_for, filters_of}
-use Rattle.rt_registry.specs.Bindings.{unless_text, or_err, meaning_of_binding, at_count, all_from, binding_limit}
-use Rattle.rt_registry.specs.Bindings.{within_limit}
+use Rattle.rt_registry.specs.Bindings.{Refusal, unknown_role, limit, bad_binding, role_for, bindings_for, why_text}
+use Rattle.rt_registry.specs.Bindings.{wanted_of, table_for, tests_for, filters_of, unless_text, or_err}
+use Rattle.rt_registry.specs.Bindings.{meaning_of_binding, at_count, all_from, binding_limit, within_limit}
 use Rattle.rt_entry.specs.declared.input.Settings.{Settings}
 use Rattle.rt_entry.specs.declared.story.Opening.{Opening}
 use Rattle.rt_entry.specs.declared.story.Channel.{Channel}
@@ -78,13 +77,13 @@ told_true false reason u = u
 
 -- the reasons
 
-fault_utf8 : (e : TokenFault) → IsUtf8 (fault_text e)
-fault_utf8 token.NoMemory = word (codes "out of memory") refl
-fault_utf8 token.Shape = word (codes "token shape") refl
-fault_utf8 token.Algorithm = word (codes "token algorithm") refl
-fault_utf8 token.Signature = word (codes "token signature") refl
-fault_utf8 (token.Expired exp) = word (codes "token expired") refl
-fault_utf8 token.NoRole = word (codes "token without role") refl
+fault_utf8 : (e : TokenFault) (is : IsReason e) → IsUtf8 (fault_text e is)
+fault_utf8 token.NoMemory is = absurd is
+fault_utf8 token.Shape is = word (codes "token shape") refl
+fault_utf8 token.Algorithm is = word (codes "token algorithm") refl
+fault_utf8 token.Signature is = word (codes "token signature") refl
+fault_utf8 (token.Expired exp) is = word (codes "token expired") refl
+fault_utf8 token.NoRole is = word (codes "token without role") refl
 
 why_utf8 : (e : BindingWhy) → IsUtf8 (why_text e)
 why_utf8 why.Event = word (codes "event") refl
@@ -98,17 +97,15 @@ why_utf8 why.TooMany = word (codes "too many values") refl
 why_utf8 why.Value = word (codes "bad value") refl
 
 -- a fault whose place is spelled whole
-abbrev Spelled : RegistryFault → Type 0
-Spelled NoMemory = ⊤
-Spelled UnknownRole = ⊤
-Spelled (Limit n) = ⊤
-Spelled (BadBinding n reason) = Small n
+abbrev Spelled : Refusal → Type 0
+Spelled unknown_role = ⊤
+Spelled (limit n) = ⊤
+Spelled (bad_binding n reason) = Small n
 
-registry_utf8 : (e : RegistryFault) → Spelled e → IsUtf8 (registry_text e)
-registry_utf8 NoMemory h = word (codes "out of memory") refl
-registry_utf8 UnknownRole h = word (codes "unknown role") refl
-registry_utf8 (Limit n) h = word (codes "too many bindings") refl
-registry_utf8 (BadBinding n reason) h =
+registry_utf8 : (e : Refusal) → Spelled e → IsUtf8 (registry_text e)
+registry_utf8 unknown_role h = word (codes "unknown role") refl
+registry_utf8 (limit n) h = word (codes "too many bindings") refl
+registry_utf8 (bad_binding n reason) h =
     IsUtf8-append (codes "binding " ++ decimal n ++ codes ": ") (why_text reason)
     (IsUtf8-append (codes "binding " ++ decimal n) (codes ": ")
     (IsUtf8-append (codes "binding ") (decimal n) (word (codes "binding ") refl) (decimal_utf8 n h))
@@ -116,29 +113,29 @@ registry_utf8 (BadBinding n reason) h =
     (why_utf8 reason)
 
 -- what a registry answers
-abbrev Answered : {A : Type 0} → (A → Type 0) → Result A RegistryFault → Type 0
+abbrev Answered : {A : Type 0} → (A → Type 0) → Result A Refusal → Type 0
 Answered B (Ok x) = B x
 Answered B (Err e) = Spelled e
 
-answered_bind : {A C : Type 0} (B : A → Type 0) (D : C → Type 0) (r : Result A RegistryFault) (f : A
-    → Result C RegistryFault) → Answered B r
+answered_bind : {A C : Type 0} (B : A → Type 0) (D : C → Type 0) (r : Result A Refusal) (f : A → Result C Refusal)
+    → Answered B r
     → ((x : A) → B x → Answered D (f x)) → Answered D (registry.◌>>◌ r f)
 answered_bind B D (Ok x) f h k = k x h
 answered_bind B D (Err e) f h k = h
 
-told_registry : {A : Type 0} (B : A → Type 0) (r : Result A RegistryFault) → Answered B r
+told_registry : {A : Type 0} (B : A → Type 0) (r : Result A Refusal) → Answered B r
     → Told B (told_by registry_text r)
 told_registry B (Ok x) h = h
 told_registry B (Err e) h = registry_utf8 e h
 
-told_token : (r : Result Claims TokenFault) → Told (λ (x : Claims). ⊤) (told_by fault_text r)
-told_token (Ok x) = tt
-told_token (Err e) = fault_utf8 e
+told_token : (r : Result Claims TokenFault) (has : HasReason r) → Told (λ (x : Claims). ⊤) (or_text r has)
+told_token (Ok x) has = tt
+told_token (Err e) has = fault_utf8 e has
 
 role_answered : (c : Catalog) (claims : Claims) → Answered (λ (n : ℕ). ⊤) (role_for c claims)
 role_answered c claims = by (role_named c claims.role)
   where
-    by : (o : Option ℕ) → Answered (λ (n : ℕ). ⊤) (or_err UnknownRole o)
+    by : (o : Option ℕ) → Answered (λ (n : ℕ). ⊤) (or_err unknown_role o)
     by None = tt
     by (Some n) = tt
 
@@ -186,7 +183,7 @@ limited : (bs : List Binding) → Answered (λ (x : Bool). length bs ≤ 100) (w
 limited bs = by (nat_lt binding_limit (length bs)) refl
   where
     by : (b : Bool) → nat_lt binding_limit (length bs) ≡ b
-        → Answered (λ (x : Bool). length bs ≤ 100) (registry.demand (not b) (Limit (length bs)))
+        → Answered (λ (x : Bool). length bs ≤ 100) (registry.demand (not b) (limit (length bs)))
     by true e = tt
     by false e = grind (arith, nat_tests)
 
@@ -204,7 +201,7 @@ bindings_answered c claims bs a =
     (λ _ few.
     few_of (all_from c role 1 bs) few (all_answered c role 1 bs (omega arith) a)))
   where
-    few_of : (r : Result (List Subscribed) RegistryFault) → length bs ≤ 100 → Answered (BindingsFit (length bs)) r
+    few_of : (r : Result (List Subscribed) Refusal) → length bs ≤ 100 → Answered (BindingsFit (length bs)) r
         → Answered FewFit r
     few_of (Ok ss) few h = let n = h.1 in (h.0, omega arith)
     few_of (Err e) few h = h
@@ -269,7 +266,9 @@ pub record NowFits (now : Now) : Type 0 where
 
 module _ (c : Catalog) (s : Settings) (names : HasReadableNames c) (now : Now) (fits : NowFits now) where
   claims_told : (o : Opening) (token : Option Json) → Told (λ (x : Claims). ⊤) (asked_claims s now o token)
-  claims_told o token = told_token (claims_asked s.secret (seconds_of now.moment) o.claims token)
+  claims_told o token =
+      let seconds = seconds_of now.moment in
+      told_token (claims_asked s.secret seconds o.claims token) (asked_has_reason s.secret seconds o.claims token)
 
   key_utf8 : (key : List ℕ) → IsUtf8 key → IsUtf8 (key_of now.number key)
   key_utf8 key u =

@@ -12,8 +12,7 @@ use Rattle.rt_phx.specs.Joins.{config_of}
 use Rattle.rt_phx.specs.Asks.{name_in}
 use Rattle.rt_catalog.specs.declared.catalog.Catalog.{Catalog}
 use Rattle.rt_registry.specs.declared.binding.Subscribed.{Subscribed}
-use Rattle.rt_registry.specs.declared.fault.RegistryFault.{RegistryFault}
-use Rattle.rt_registry.specs.Bindings.{role_for, bindings_for}
+use Rattle.rt_registry.specs.Bindings.{Refusal, role_for, bindings_for}
 use Rattle.rt_private.specs.Rights as private
 use Rattle.rt_entry.specs.declared.input.Settings.{Settings}
 use Rattle.rt_entry.specs.declared.story.Opening.{Opening}
@@ -42,7 +41,7 @@ no_reason : (o : Option (List ℕ)) (b : Bool) → unless o ≡ Ok b → o ≡ N
 no_reason None b e = refl
 no_reason (Some why) b e = absurd (cc)
 
-told_same : {A : Type 0} (r : Result A RegistryFault) (x : A) → told_by registry_text r ≡ Ok x → r ≡ Ok x
+told_same : {A : Type 0} (r : Result A Refusal) (x : A) → told_by registry_text r ≡ Ok x → r ≡ Ok x
 told_same {A} (Ok y) x e = let k : y ≡ x = cc in ap (λ (z : A). Ok z) k
 told_same (Err fault) x e = absurd (cc)
 

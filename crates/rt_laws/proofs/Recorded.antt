@@ -19,7 +19,6 @@ use Rattle.rt_json.specs.Lookup.{member_of}
 use Rattle.rt_wal.specs.declared.records.Record.{Record}
 use Rattle.rt_wal.specs.declared.records.Field.{Field}
 use Rattle.rt_wal.specs.declared.records.Action.{Action}
-use Rattle.rt_wal.specs.Records.{content_of}
 use Rattle.rt_wal.specs.Shapes.{layer_items, each, name_of, field_of, are_named, named_items, items_or_none, fields_in}
 use Rattle.rt_wal.specs.Shapes.{keys_in, has_row, shows_row, name_for, action_in, shape_of}
 use Rattle.rt_wal.specs.Times.{IsTimeAt, IsTimeIn, IsMoment}
@@ -259,10 +258,9 @@ module _ (r : Record) (f : FieldsFit r) (moment : Maybe IsUtf8 r.moment) where
 
 line_fits : (c : Catalog) (ch : Change) → IsOfLine c ch → ChangeFits ch
 line_fits c ch b =
-    let text = content_of b.line in
     let is = b.is_record in
-    let fields = record_fits (length text) is.tree (record b.entry { moment = None })
-    (read_fits 64 is.tree text is.is_json) is.shape in
+    let fields = record_fits (length b.line) is.tree (record b.entry { moment = None })
+    (read_fits 64 is.tree b.line is.is_json) is.shape in
     given_fits b.entry (record { columns = fields.columns; identity = fields.identity })
     (time_fits is.tree b.entry.moment is.time) c ch b.gives
 

@@ -1,18 +1,21 @@
 -- What bindings mean for a role, or the first reason against them.
-use Rattle.std.specs.Prelude.{ℕ, ◌==◌, ◌+◌, nat_lt, Bool, true, false, not, List, [], ◌∷◌, map, length, codes, Option, Some, None, option_map, unwrap_or, Result, Ok, Err}
+use Rattle.std.specs.Prelude.{⊤, ℕ, ◌==◌, ◌+◌, nat_lt, Bool, true, false, not, if◌then◌else◌, List, [], ◌∷◌, map, length, find, codes, Option, Some, None, option_map, unwrap_or, Result, Ok, Err}
 use Rattle.std.specs.List.{list_any, filter, enumerate_from}
 use Rattle.std.specs.Str.{bytes_eq}
 use Rattle.rt_value.specs.declared.claims.Claims.{Claims}
+use Rattle.rt_value.specs.declared.value.Value.{Value}
 use Rattle.rt_value.specs.Choice.{◌>>=◌, some_if, first_case}
 use Rattle.rt_filter.specs.declared.filter.Shown.{Shown}
 use Rattle.rt_filter.specs.declared.filter.Test.{Test}
+use Rattle.rt_filter.specs.declared.filter.Filter.{Filter}
+use Rattle.rt_filter.specs.declared.filter.Op.{Op}
 use Rattle.rt_filter.specs.declared.fault.FilterFault.{FilterFault}
 use Rattle.rt_filter.specs.declared.fault.FilterFault.TheVariants as fault
 use Rattle.rt_filter.specs.declared.subscription.Wanted.{Wanted}
 use Rattle.rt_filter.specs.declared.subscription.Wanted.TheVariants.{All, Insert, Update, Delete}
 use Rattle.rt_filter.specs.declared.subscription.Subscription.{Subscription}
 use Rattle.rt_filter.specs.Written.{filter_of}
-use Rattle.rt_filter.specs.Tests.{test_of}
+use Rattle.rt_filter.specs.Tests.{all_read, is_opaque, test_of, test_on, test_with, value_limit}
 use Rattle.rt_catalog.specs.declared.catalog.Catalog.{Catalog}
 use Rattle.rt_catalog.specs.Access.{may_select, table_at, table_named, role_named}
 use Rattle.rt_registry.specs.declared.binding.Binding.{Binding}
@@ -20,7 +23,21 @@ use Rattle.rt_registry.specs.declared.binding.Subscribed.{Subscribed}
 use Rattle.rt_registry.specs.declared.fault.BindingWhy.{BindingWhy}
 use Rattle.rt_registry.specs.declared.fault.BindingWhy.TheVariants as why
 use Rattle.rt_registry.specs.declared.fault.RegistryFault.{RegistryFault}
-use Rattle.rt_registry.specs.declared.fault.RegistryFault.TheVariants.{UnknownRole, Limit, BadBinding}
+use Rattle.rt_registry.specs.declared.fault.RegistryFault.TheVariants as registry
+
+-- why a channel's bindings are refused. Want of memory is no reason.
+pub data Refusal : Type 0 where
+  unknown_role : Refusal
+  -- so many bindings
+  limit : ℕ → Refusal
+  -- the first bad one, counted from 1
+  bad_binding : ℕ → BindingWhy → Refusal
+
+-- the fault that tells a refusal
+abbrev pub fault_of : Refusal → RegistryFault
+fault_of unknown_role = registry.UnknownRole
+fault_of (limit n) = registry.Limit n
+fault_of (bad_binding n reason) = registry.BadBinding n reason
 
 infixl 10 ◌>>◌
 abbrev pub ◌>>◌ : {A B E : Type 0} → Result A E → (A → Result B E) → Result B E
@@ -62,21 +79,50 @@ abbrev pub shown_to : Catalog → ℕ → ℕ → List Shown
 shown_to c role table =
     map (λ n. record { name = n.1.name; kind = n.1.kind; selectable = may_select c role table n.0 }) (enumerate_from 0 (table_at c table).columns)
 
-abbrev pub why_of : FilterFault → BindingWhy
-why_of fault.ColumnHidden = why.Column
-why_of fault.Opaque = why.Opaque
-why_of (fault.TooMany n) = why.TooMany
-why_of fault.BadValue = why.Value
-why_of fault.BadFilter = why.Filter
-why_of fault.NoMemory = why.Filter
+-- the fault is one of the filter: want of memory is no reason
+abbrev pub IsReason : FilterFault → Type 0
+IsReason fault.NoMemory = ⊥
+IsReason _ = ⊤
 
-abbrev pub test_or_why : Result Test FilterFault → Result Test BindingWhy
-test_or_why (Ok t) = Ok t
-test_or_why (Err e) = Err (why_of e)
+abbrev pub why_of : (e : FilterFault) → IsReason e → BindingWhy
+why_of fault.ColumnHidden is = why.Column
+why_of fault.Opaque is = why.Opaque
+why_of (fault.TooMany n) is = why.TooMany
+why_of fault.BadValue is = why.Value
+why_of fault.BadFilter is = why.Filter
+why_of fault.NoMemory is = absurd is
+
+abbrev pub HasReason : Result Test FilterFault → Type 0
+HasReason (Ok t) = ⊤
+HasReason (Err e) = IsReason e
+
+abbrev pub test_or_why : (r : Result Test FilterFault) → HasReason r → Result Test BindingWhy
+test_or_why (Ok t) has = Ok t
+test_or_why (Err e) has = Err (why_of e has)
+
+-- no test of a filter ends for want of memory
+pub test_has_reason : (f : Filter) (columns : List Shown) → HasReason (test_of f columns)
+unfolding test_of
+test_has_reason f columns = by_column (find (λ c. bytes_eq c.1.name f.column) (enumerate_from 0 columns))
+  where
+    either : (b : Bool) (x y : Result Test FilterFault) → HasReason x → HasReason y → HasReason (if b then x else y)
+    either true x y h k = h
+    either false x y h k = k
+
+    read : (n : ℕ) (op : Op) (values : Option (List Value)) → HasReason (test_with n op values)
+    read n op None = tt
+    read n op (Some values) = tt
+
+    by_column : (o : Option (ℕ × Shown)) → HasReason (unwrap_or (option_map (test_on f) o) (Err fault.ColumnHidden))
+    by_column None = tt
+    by_column (Some c) =
+        either (not c.1.selectable) _ _ tt
+        (either (is_opaque c.1.kind) _ _ tt
+        (either (nat_lt value_limit (length f.values)) _ _ tt (read c.0 f.op (all_read c.1.kind f.values))))
 
 -- what a filter tests on a table's columns, or the first reason against it
 abbrev pub test_for : List Shown → List ℕ → Result Test BindingWhy
-test_for columns text = or_err why.Filter (filter_of text) >> λ f. test_or_why (test_of f columns)
+test_for columns text = or_err why.Filter (filter_of text) >> λ f. test_or_why (test_of f columns) (test_has_reason f columns)
 
 -- each filter in turn
 abbrev pub each_test : List Shown → List (List ℕ) → Result (List Test) BindingWhy
@@ -106,12 +152,12 @@ meaning_of_binding c role b =
     tests_for c role table (filters_of b) >> λ tests.
     Ok (record { binding = b; wanted = wanted; table = table; tests = tests })
 
-abbrev pub at_count : {A : Type 0} → ℕ → Result A BindingWhy → Result A RegistryFault
+abbrev pub at_count : {A : Type 0} → ℕ → Result A BindingWhy → Result A Refusal
 at_count n (Ok x) = Ok x
-at_count n (Err reason) = Err (BadBinding n reason)
+at_count n (Err reason) = Err (bad_binding n reason)
 
 -- all of them, or the first bad one, counted from a number on
-abbrev pub all_from : Catalog → ℕ → ℕ → List Binding → Result (List Subscribed) RegistryFault
+abbrev pub all_from : Catalog → ℕ → ℕ → List Binding → Result (List Subscribed) Refusal
 all_from c role n [] = Ok []
 all_from c role n (b ∷ more) = at_count n (meaning_of_binding c role b) >> λ s. all_from c role (n + 1) more >> λ ss. Ok (s ∷ ss)
 
@@ -119,14 +165,14 @@ all_from c role n (b ∷ more) = at_count n (meaning_of_binding c role b) >> λ 
 abbrev pub binding_limit : ℕ
 binding_limit = 100
 
-abbrev pub within_limit : List Binding → Result Bool RegistryFault
-within_limit bindings = demand (not (nat_lt binding_limit (length bindings))) (Limit (length bindings))
+abbrev pub within_limit : List Binding → Result Bool Refusal
+within_limit bindings = demand (not (nat_lt binding_limit (length bindings))) (limit (length bindings))
 
-abbrev pub role_for : Catalog → Claims → Result ℕ RegistryFault
-role_for c claims = or_err UnknownRole (role_named c claims.role)
+abbrev pub role_for : Catalog → Claims → Result ℕ Refusal
+role_for c claims = or_err unknown_role (role_named c claims.role)
 
 -- what a channel's bindings mean under claims, or the first reason against them: the role, their number, the first bad one
-unfoldable pub bindings_for : Catalog → Claims → List Binding → Result (List Subscribed) RegistryFault
+unfoldable pub bindings_for : Catalog → Claims → List Binding → Result (List Subscribed) Refusal
 bindings_for c claims bindings =
     role_for c claims >> λ role.
     within_limit bindings >> λ _.

@@ -1,9 +1,10 @@
 -- The lines of a script, each by the one way in which it is written. Numbers are decimal, and one blank stands between words.
-use Rattle.std.specs.Prelude.{◌≡◌, ℕ, ◌==◌, ◌≤◌, ◌<◌, ◌^◌, Bool, true, false, ◌&&◌, nat_lt, List, [], ◌∷◌, ◌++◌, codes, length, reverse, ⊤}
+use Rattle.std.specs.Prelude.{◌≡◌, ℕ, ◌==◌, ◌≤◌, ◌<◌, ◌^◌, Bool, true, false, ◌&&◌, nat_lt, List, [], ◌∷◌, ◌++◌, codes, length, ⊤}
 use Rattle.std.specs.Fmt.{decimal}
 use Rattle.std.specs.Char.{is_ascii_alphanumeric}
 use Rattle.std.specs.List.{list_all, list_any, before_first}
 use Rattle.std.specs.Str.{bytes_eq}
+use Rattle.rt_wal.specs.Records.{without_last}
 use Rattle.rt_phx.specs.declared.message.Version.{Version}
 use Rattle.rt_phx.specs.declared.message.Version.TheVariants.{V1, V2}
 use Rattle.rt_entry.specs.declared.input.Settings.{Settings}
@@ -129,17 +130,10 @@ is_passed_over [] = true
 is_passed_over (b ∷ line) = b == 35
 
 -- Lines end at LF, the last LF may be missing, and a CR before an LF is dropped.
-abbrev pub without_cr : List ℕ → List ℕ
-without_cr line = reverse (drop_cr (reverse line))
-  where
-    drop_cr : List ℕ → List ℕ
-    drop_cr [] = []
-    drop_cr (b ∷ bytes) = elim (b == 13) [ true ↦ bytes | false ↦ b ∷ bytes ]
-
 abbrev pub lines_from : List ℕ → List ℕ → List (List ℕ)
 lines_from [] [] = []
 lines_from (a ∷ line) [] = (a ∷ line) ∷ []
-lines_from line (b ∷ bytes) = elim (b == 10) [ true ↦ without_cr line ∷ lines_from [] bytes | false ↦ lines_from (line ++ b ∷ []) bytes ]
+lines_from line (b ∷ bytes) = elim (b == 10) [ true ↦ without_last 13 line ∷ lines_from [] bytes | false ↦ lines_from (line ++ b ∷ []) bytes ]
 
 abbrev pub lines_of : List ℕ → List (List ℕ)
 lines_of bytes = lines_from [] bytes

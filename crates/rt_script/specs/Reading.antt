@@ -10,7 +10,7 @@ use Rattle.rt_json.specs.Lookup.{member_of}
 use Rattle.rt_json.specs.Machine.{tree_of}
 use Rattle.rt_wal.specs.declared.records.Record.{Record}
 use Rattle.rt_wal.specs.declared.faults.RecordWhy.{RecordWhy}
-use Rattle.rt_wal.specs.Records.{IsRecord, IsRefusedText, content_of}
+use Rattle.rt_wal.specs.Records.{IsRecordText, IsRefusedText}
 use Rattle.rt_token.specs.declared.fault.TokenFault.{TokenFault}
 use Rattle.rt_token.specs.Claims.{claims_in_tree}
 use Rattle.rt_token.specs.Tokens.{signed_token}
@@ -157,9 +157,6 @@ post_in slot text =
 abbrev pub with_setting : State → Command → Settings → State
 with_setting st k settings = record st { settings = settings; given = first_word (spelling k) ∷ st.given }
 
-abbrev pub begun_with : State → State
-begun_with st = record st { begun = true }
-
 -- a line with an act
 abbrev pub with_act : ℕ → Act → State → State
 with_act number act st = record st { steps = st.steps ++ record { number = number; step = act } ∷ []; begun = true }
@@ -187,46 +184,54 @@ token_state st name claims =
     or_why why.Token (some_if (not (is_some (token_named st name))) name) >> λ _.
     Ok (with_token st name claims)
 
--- what the lines up to a command say, or the reason against it; a record is read by `Takes` below
-abbrev pub state_after : State → ℕ → Command → Result State LineWhy
-state_after st number (command.workers n) = Ok (with_setting st (command.workers n) (record st.settings { workers = n }))
-state_after st number (command.capacity n) = Ok (with_setting st (command.capacity n) (record st.settings { capacity = n }))
-state_after st number (command.lane n) = Ok (with_setting st (command.lane n) (record st.settings { lane = n }))
-state_after st number (command.inlet n) = Ok (with_setting st (command.inlet n) (record st.settings { inlet = n }))
-state_after st number (command.rows n) = Ok (with_setting st (command.rows n) (record st.settings { rows = n }))
-state_after st number (command.inputs n) = Ok (with_setting st (command.inputs n) (record st.settings { inputs = n }))
-state_after st number (command.max_record_bytes n) = Ok (with_setting st (command.max_record_bytes n) (record st.settings { max_record = n }))
-state_after st number (command.secret text) = Ok (with_setting st (command.secret text) (record st.settings { secret = text }))
-state_after st number command.schedule_manual = Ok (record (with_setting st command.schedule_manual st.settings) { manual = true })
-state_after st number (command.token name claims) = token_state st name claims
-state_after st number (command.open_ slot version claims) = or_why why.Claims (claims_in claims) >> λ found. Ok (with_step number (Arrive (Opened slot version found)) st)
-state_after st number (command.frame slot text) = or_why why.Token (filled st text) >> λ bytes. Ok (with_step number (Arrive (Frame slot bytes)) st)
-state_after st number (command.gone slot) = Ok (with_step number (Arrive (Gone slot)) st)
-state_after st number (command.post slot text) = post_in slot text >> λ i. Ok (with_step number (Arrive i) st)
-state_after st number (command.wal record_) = Ok (begun_with st)
-state_after st number command.poll = Ok (with_poll number st)
-state_after st number (command.tick moment) = or_why why.Clock (some_if (nat_le st.clock moment) moment) >> λ _. Ok (with_tick number moment st)
-state_after st number command.stop = Ok (with_step number (Feed Stop) st)
-state_after st number (command.take_ slot) = Ok (with_step number (Take slot) st)
-state_after st number command.feed = Ok (with_step number TakeFeed st)
-state_after st number command.clock = Ok (with_step number TakeClock st)
-state_after st number (command.send l) = Ok (with_step number (Send l) st)
-state_after st number (command.work l) = Ok (with_step number (Work l) st)
-state_after st number (command.push slot) = Ok (with_step number (Push slot) st)
-state_after st number (command.pop slot) = Ok (with_step number (Pop slot) st)
-state_after st number command.drain = Ok (with_act number Drain st)
-
-abbrev pub is_wal : Command → Bool
-is_wal (command.wal record_) = true
-is_wal _ = false
+-- what the lines up to a command say, or the reason against it; a record is read by `Takes` and `Refuses` below
+abbrev pub state_after : State → ℕ → Command → Option (Result State LineWhy)
+state_after st number (command.workers n) =
+    Some (Ok (with_setting st (command.workers n) (record st.settings { workers = n })))
+state_after st number (command.capacity n) =
+    Some (Ok (with_setting st (command.capacity n) (record st.settings { capacity = n })))
+state_after st number (command.lane n) = Some (Ok (with_setting st (command.lane n) (record st.settings { lane = n })))
+state_after st number (command.inlet n) =
+    Some (Ok (with_setting st (command.inlet n) (record st.settings { inlet = n })))
+state_after st number (command.rows n) = Some (Ok (with_setting st (command.rows n) (record st.settings { rows = n })))
+state_after st number (command.inputs n) =
+    Some (Ok (with_setting st (command.inputs n) (record st.settings { inputs = n })))
+state_after st number (command.max_record_bytes n) =
+    Some (Ok (with_setting st (command.max_record_bytes n) (record st.settings { max_record = n })))
+state_after st number (command.secret text) =
+    Some (Ok (with_setting st (command.secret text) (record st.settings { secret = text })))
+state_after st number command.schedule_manual = Some (Ok (record (with_setting st command.schedule_manual st.settings) { manual = true }))
+state_after st number (command.token name claims) = Some (token_state st name claims)
+state_after st number (command.open_ slot version claims) =
+    Some (or_why why.Claims (claims_in claims) >> λ found. Ok (with_step number (Arrive (Opened slot version found)) st))
+state_after st number (command.frame slot text) =
+    Some (or_why why.Token (filled st text) >> λ bytes. Ok (with_step number (Arrive (Frame slot bytes)) st))
+state_after st number (command.gone slot) = Some (Ok (with_step number (Arrive (Gone slot)) st))
+state_after st number (command.post slot text) = Some (post_in slot text >> λ i. Ok (with_step number (Arrive i) st))
+state_after st number (command.wal record_) = None
+state_after st number command.poll = Some (Ok (with_poll number st))
+state_after st number (command.tick moment) =
+    Some (or_why why.Clock (some_if (nat_le st.clock moment) moment) >> λ _. Ok (with_tick number moment st))
+state_after st number command.stop = Some (Ok (with_step number (Feed Stop) st))
+state_after st number (command.take_ slot) = Some (Ok (with_step number (Take slot) st))
+state_after st number command.feed = Some (Ok (with_step number TakeFeed st))
+state_after st number command.clock = Some (Ok (with_step number TakeClock st))
+state_after st number (command.send l) = Some (Ok (with_step number (Send l) st))
+state_after st number (command.work l) = Some (Ok (with_step number (Work l) st))
+state_after st number (command.push slot) = Some (Ok (with_step number (Push slot) st))
+state_after st number (command.pop slot) = Some (Ok (with_step number (Pop slot) st))
+state_after st number command.drain = Some (Ok (with_act number Drain st))
 
 -- the line of this number leads from one state to the next
 pub data Takes (c : Catalog) (st : State) (number : ℕ) (line : List ℕ) : State → Type 0 where
   passes : is_passed_over line ≡ true → Takes c st number line st
-  reads : {k : Command} {next : State} → is_passed_over line ≡ false → is_wal k ≡ false → IsCommand st line k → state_after st number k ≡ Ok next → Takes c st number line next
+  reads : {k : Command} {next : State} → is_passed_over line ≡ false → IsCommand st line k → state_after st number k ≡ Some (Ok next)
+      → Takes c st number line next
   -- a record is kept for the next poll, as the change that it is bound to
-  keeps : {bytes : List ℕ} {r : Record} {b : Bound} → IsCommand st line (command.wal bytes) → IsRecord bytes r → change_of c r ≡ Ok b → Takes c st number line (with_bound st b)
+  keeps : {bytes : List ℕ} {r : Record} {b : Bound}
+      → IsCommand st line (command.wal bytes) → IsRecordText bytes r → change_of c r ≡ Ok b → Takes c st number line (with_bound st b)
 
+-- the reason of a fault; want of memory is none
 abbrev pub why_of : ChangeFault → Option LineWhy
 why_of fault.KeyDiffers = Some why.Key
 why_of (fault.ColumnUnknown name) = Some why.Column
@@ -237,10 +242,13 @@ why_of fault.NoMemory = None
 pub data Refuses (c : Catalog) (st : State) (number : ℕ) (line : List ℕ) : LineWhy → Type 0 where
   late : is_late st line ≡ true → Refuses c st number line why.Late
   no_command : is_passed_over line ≡ false → is_late st line ≡ false → ((k : Command) → IsCommand st line k → ⊥) → Refuses c st number line why.Form
-  no_meaning : {k : Command} {reason : LineWhy} → IsCommand st line k → state_after st number k ≡ Err reason → Refuses c st number line reason
-  no_record : {bytes : List ℕ} (reason : RecordWhy) → IsCommand st line (command.wal bytes) → IsRefusedText (content_of bytes) reason → Refuses c st number line why.Record
+  no_meaning : {k : Command} {reason : LineWhy} → IsCommand st line k → state_after st number k ≡ Some (Err reason)
+      → Refuses c st number line reason
+  no_record : {bytes : List ℕ} (reason : RecordWhy) → IsCommand st line (command.wal bytes) → IsRefusedText bytes reason
+      → Refuses c st number line why.Record
   unbound : {bytes : List ℕ} {r : Record} {e : ChangeFault} {reason : LineWhy}
-      → IsCommand st line (command.wal bytes) → IsRecord bytes r → change_of c r ≡ Err e → why_of e ≡ Some reason → Refuses c st number line reason
+      → IsCommand st line (command.wal bytes) → IsRecordText bytes r → change_of c r ≡ Err e → why_of e ≡ Some reason
+      → Refuses c st number line reason
 
 -- all lines from a number on, one after another
 pub data TakesAll (c : Catalog) : State → ℕ → List (List ℕ) → State → Type 0 where

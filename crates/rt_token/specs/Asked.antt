@@ -1,10 +1,11 @@
--- The claims that a payload's `access_token` asks for, and the reasons that are told.
-use Rattle.std.specs.Prelude.{ℕ, ◌/◌, not, List, codes, Option, Some, None, unwrap_or, Result, Ok, Err}
+-- The claims that a payload's `access_token` asks for.
+use Rattle.std.specs.Prelude.{ℕ, ◌/◌, not, List, Option, Some, None, unwrap_or, Result, Ok, Err}
 use Rattle.rt_value.specs.declared.claims.Claims.{Claims}
-use Rattle.rt_json.specs.declared.tree.Json.{Json, Null, Text}
+use Rattle.rt_json.specs.declared.tree.Json.{Json, Null, Bool as Truth, Num, Text, List', Object'}
 use Rattle.rt_token.specs.declared.fault.TokenFault.{TokenFault}
-use Rattle.rt_token.specs.declared.fault.TokenFault.TheVariants.{NoMemory, Shape, Algorithm, Signature, Expired, NoRole}
+use Rattle.rt_token.specs.declared.fault.TokenFault.TheVariants.{Shape, Expired}
 use Rattle.rt_token.specs.Claims.{◌>>◌, ensure, is_expired}
+use Rattle.rt_token.specs.Reasons.{HasReason, then_has_reason, true_has_reason, token_has_reason}
 use Rattle.rt_token.specs.Tokens.{claims_in_token}
 
 -- a moment in whole seconds
@@ -22,10 +23,22 @@ claims_asked secret seconds given (Some Null) = unless_expired seconds given
 claims_asked secret seconds given (Some (Text token)) = claims_in_token secret token seconds
 claims_asked secret seconds given (Some tree) = Err Shape
 
-abbrev pub fault_text : TokenFault → List ℕ
-fault_text NoMemory = codes "out of memory"
-fault_text Shape = codes "token shape"
-fault_text Algorithm = codes "token algorithm"
-fault_text Signature = codes "token signature"
-fault_text (Expired exp) = codes "token expired"
-fault_text NoRole = codes "token without role"
+-- claims that are asked for never end for want of memory
+pub asked_has_reason : (secret : List ℕ) (seconds : ℕ) (given : Claims) (asked : Option Json)
+    → HasReason (claims_asked secret seconds given asked)
+asked_has_reason secret seconds given asked = by asked
+  where
+    in_time : HasReason (unless_expired seconds given)
+    in_time =
+        let late = Expired (unwrap_or given.exp 0) in
+        then_has_reason (ensure (not (is_expired seconds given.exp)) late) (λ _. Ok given)
+        (true_has_reason (not (is_expired seconds given.exp)) late tt) (λ _. tt)
+
+    by : (o : Option Json) → HasReason (claims_asked secret seconds given o)
+    by None = in_time
+    by (Some Null) = in_time
+    by (Some (Text token)) = token_has_reason secret token seconds
+    by (Some (Truth b)) = tt
+    by (Some (Num digits)) = tt
+    by (Some (List' shape row)) = tt
+    by (Some (Object' shape row)) = tt

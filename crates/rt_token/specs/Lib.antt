@@ -4,5 +4,6 @@ pub mod Claims
 pub mod Hmac
 pub mod Lent
 pub mod Parts
+pub mod Reasons
 pub mod Tokens
 pub mod Trees
