@@ -66,8 +66,7 @@ fn catalogue_of(alloc: Global, words: &[Text]) -> Result<Catalogue, FormFault>
             let first = column_in(alloc, first, first_type)?;
             let second = column_in(alloc, second, second_type)?;
             let columns = columns_in(alloc, first, second)?;
-            let catalogue = catalogue_in(alloc, table, columns, key_place(is_key), role)?;
-            Ok(catalogue)
+            Ok(catalogue_in(alloc, table, columns, key_place(is_key), role)?)
         }
         None => Err(FormFault::NotBuilt),
     }

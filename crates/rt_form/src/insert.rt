@@ -199,10 +199,7 @@ fn row_from(
         → MatchResult result (λ found. found ≡ row) (λ fault. fault ≡ FormFault.NoMemory) }
 {
     match row_in(tree, table, first, second, key) {
-        Some((one, two)) => {
-            let row = row_of(alloc, one, two)?;
-            Ok(row)
-        }
+        Some((one, two)) => Ok(row_of(alloc, one, two)?),
         None => Err(FormFault::NotBuilt),
     }
 }
@@ -226,8 +223,7 @@ fn row_of_line(
         return Err(FormFault::NotBuilt);
     }
     let tree = tree_of(alloc, line)?;
-    let row = row_from(alloc, &tree, table, first, second, key)?;
-    Ok(row)
+    row_from(alloc, &tree, table, first, second, key)
 }
 
 /// The row that a record inserts into the table, a value for each column. `NotBuilt` where it is no
@@ -240,8 +236,7 @@ pub fn inserted_row(alloc: Global, line: &str, table: &Table) -> Result<List<Jso
 {
     match columns_of(table) {
         Some((first, second, key)) => {
-            let row = row_of_line(alloc, line, table.name.get(), first, second, key)?;
-            Ok(row)
+            row_of_line(alloc, line, table.name.get(), first, second, key)
         }
         None => Err(FormFault::NotBuilt),
     }

@@ -181,8 +181,7 @@ pub fn join_of(alloc: Global, frame: &str, table: &str) -> Result<Join, FormFaul
         return Err(FormFault::NotBuilt);
     }
     let tree = tree_of(alloc, frame)?;
-    let join = join_from(alloc, &tree, table)?;
-    Ok(join)
+    join_from(alloc, &tree, table)
 }
 
 fn of_json(fault: JsonFault) -> FormFault

@@ -85,8 +85,7 @@ pub fn words_of(alloc: Global, text: &str) -> Result<Vec<Text>, FormFault>
         return Err(FormFault::NotBuilt);
     }
     let tokens = cut(alloc, text)?;
-    let words = words_in(alloc, text, tokens.as_slice())?;
-    Ok(words)
+    words_in(alloc, text, tokens.as_slice())
 }
 
 fn begins_name(word: &str) -> bool

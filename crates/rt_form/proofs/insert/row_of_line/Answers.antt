@@ -9,14 +9,7 @@ returns-in_err-tree-clause-only c = λ row h.
     let p = err_from_is_err_and c.from_residual.result c.from_residual.ensures.1 in
     rw (p.1, p.2) (c.in_err-tree.ensures.only h.tree h.read)
 
-pub returns-in_err-row-clause-only : goal.returns-in_err-row-clause-only
-returns-in_err-row-clause-only c = λ row h.
-    let P : Json → Type 0 = λ t. IsRow c.args.table.now c.args.first.now c.args.second.now c.args.key.now t row in
-    let here = subst P (sym (c.in_ok-tree.ensures.only h.tree h.read)) h.row_is in
-    let p = err_from_is_err_and c.from_residual-in_err-row.result c.from_residual-in_err-row.ensures.1 in
-    rw (p.1, p.2) (c.in_err-row.ensures.only row here)
-
 pub returns-clause-only : goal.returns-clause-only
 returns-clause-only c = λ row h.
     let P : Json → Type 0 = λ t. IsRow c.args.table.now c.args.first.now c.args.second.now c.args.key.now t row in
-    c.in_ok-row.ensures.only row (subst P (sym (c.in_ok-tree.ensures.only h.tree h.read)) h.row_is)
+    c.row_from.ensures.only row (subst P (sym (c.in_ok-tree.ensures.only h.tree h.read)) h.row_is)

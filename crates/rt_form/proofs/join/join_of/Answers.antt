@@ -9,14 +9,7 @@ returns-in_err-tree-clause-only c = λ join h.
     let p = err_from_is_err_and c.from_residual.result c.from_residual.ensures.1 in
     rw (p.1, p.2) (c.in_err-tree.ensures.only h.tree h.read)
 
-pub returns-in_err-join-clause-only : goal.returns-in_err-join-clause-only
-returns-in_err-join-clause-only c = λ join h.
-    let P : Json → Type 0 = λ t. IsJoinTree c.args.table.now t join in
-    let here = subst P (sym (c.in_ok-tree.ensures.only h.tree h.read)) h.join_is in
-    let p = err_from_is_err_and c.from_residual-in_err-join.result c.from_residual-in_err-join.ensures.1 in
-    rw (p.1, p.2) (c.in_err-join.ensures.only join here)
-
 pub returns-clause-only : goal.returns-clause-only
 returns-clause-only c = λ join h.
     let P : Json → Type 0 = λ t. IsJoinTree c.args.table.now t join in
-    c.in_ok-join.ensures.only join (subst P (sym (c.in_ok-tree.ensures.only h.tree h.read)) h.join_is)
+    c.join_from.ensures.only join (subst P (sym (c.in_ok-tree.ensures.only h.tree h.read)) h.join_is)
