@@ -5,8 +5,6 @@ mod differences;
 pub mod laws;
 mod maps;
 mod present;
-#[cfg(test)]
-mod tests;
 mod tracks;
 mod trees;
 
