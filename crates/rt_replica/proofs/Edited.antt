@@ -16,17 +16,21 @@ use Rattle.rt_value.proofs.SameRows.{same_rows}
 use Rattle.rt_value.proofs.Ties.{same_equal}
 
 -- a row that is put takes the place of one with its key
-pub put_over : (row : Row) (rows : List Row) → is_rising rows ≡ true → rows_with row (rows_without row.key rows) ≡ rows_with row rows
+pub put_over : (row : Row) (rows : List Row) → is_rising rows ≡ true → rows_with row (rows_without row.key rows)
+    ≡ rows_with row rows
 put_over row rows h =
     same_rows (rows_with row (rows_without row.key rows)) (rows_with row rows)
-    (with_rises row (rows_without row.key rows) (edited_rises (Remove row.key) rows h)) (with_rises row rows h) (λ q. by q (same_key q row.key) refl)
+    (with_rises row (rows_without row.key rows) (edited_rises (Remove row.key) rows h)) (with_rises row rows h)
+    (λ q. by q (same_key q row.key) refl)
   where
-    by : (q : Key) (b : Bool) → same_key q row.key ≡ b → row_at q (rows_with row (rows_without row.key rows)) ≡ row_at q (rows_with row rows)
+    by : (q : Key) (b : Bool) → same_key q row.key ≡ b → row_at q (rows_with row (rows_without row.key rows))
+        ≡ row_at q (rows_with row rows)
     by q true e =
         let same = same_equal q row.key e in
         ap (λ k. row_at k (rows_with row (rows_without row.key rows))) same ∙ with_at row (rows_without row.key rows)
         ∙ sym (with_at row rows) ∙ ap (λ k. row_at k (rows_with row rows)) (sym same)
-    by q false e = others_with row q (rows_without row.key rows) e ∙ others_without row.key q rows e ∙ sym (others_with row q rows e)
+    by q false e = others_with row q (rows_without row.key rows) e ∙ others_without row.key q rows e
+        ∙ sym (others_with row q rows e)
 
 fewer : (keep : Row → Bool) (rows : List Row) → length (filter keep rows) ≤ length rows
 fewer keep [] = omega arith
@@ -40,7 +44,9 @@ parted : (k : Key) (rows : List Row) → length (rows_before k rows) + length (r
 parted k [] = omega arith
 parted k (x ∷ xs) =
     rw (key_total.antisymm k x.key)
-    (elim (key_cmp x.key k) as (λ r. length (cond (is_lt r) (x ∷ rows_before k xs) (rows_before k xs)) + length (cond (is_lt (ordering_reverse r)) (x ∷ rows_behind k xs) (rows_behind k xs)) ≤ length (x ∷ xs)) [
+    (elim (key_cmp x.key k) as
+    (λ r. length (cond (is_lt r) (x ∷ rows_before k xs) (rows_before k xs)) + length
+    (cond (is_lt (ordering_reverse r)) (x ∷ rows_behind k xs) (rows_behind k xs)) ≤ length (x ∷ xs)) [
       | Less ↦ omega (arith, parted k xs)
       | Equal ↦ omega (arith, parted k xs)
       | Greater ↦ omega (arith, parted k xs)
@@ -58,7 +64,8 @@ edited_len Clear rows = omega arith
 edited_len (Remove key) rows = let left = fewer (λ row. not (same_key key row.key)) rows in omega (arith, left)
 edited_len (Put old new cells) rows =
     let left = fewer (λ row. not (is_gone old row.key)) rows in
-    let put = with_len (row_of new (filled cells (old_values old (λ key. values_at key rows)))) (rows_unmoved old rows) in
+    let put = with_len (row_of new (filled cells (old_values old (λ key. values_at key rows))))
+    (rows_unmoved old rows) in
     omega (arith, left, put)
 edited_len Nothing rows = omega arith
 

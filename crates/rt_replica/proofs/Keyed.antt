@@ -35,47 +35,60 @@ pub first-rows : (es : List (Key × Row)) → slice_get (rows_of es) 0 ≡ optio
 first-rows [] = refl
 first-rows (e ∷ es) = refl
 
-pub behind-rows : (q : Key) (es : List (Key × Row)) → AllKeyed es → slice_get (rows_behind q (rows_of es)) 0 ≡ option_map (λ e. e.1) (entry_after key_cmp es q)
+pub behind-rows : (q : Key) (es : List (Key × Row)) → AllKeyed es → slice_get (rows_behind q (rows_of es)) 0
+    ≡ option_map (λ e. e.1) (entry_after key_cmp es q)
 behind-rows q [] h = refl
 behind-rows q (e ∷ es) h =
     ap (λ k. slice_get (cond (is_lt (key_cmp q k)) (e.1 ∷ rows_behind q (rows_of es)) (rows_behind q (rows_of es))) 0) (sym h.0)
     ∙ by (is_lt (key_cmp q e.0)) (behind-rows q es h.1)
   where
     by : (b : Bool) → slice_get (rows_behind q (rows_of es)) 0 ≡ option_map (λ e. e.1) (entry_after key_cmp es q)
-        → slice_get (cond b (e.1 ∷ rows_behind q (rows_of es)) (rows_behind q (rows_of es))) 0 ≡ option_map (λ e. e.1) (cond b (Some e) (entry_after key_cmp es q))
+        → slice_get (cond b (e.1 ∷ rows_behind q (rows_of es)) (rows_behind q (rows_of es))) 0 ≡ option_map
+        (λ e. e.1) (cond b (Some e) (entry_after key_cmp es q))
     by true more = refl
     by false more = more
 
-all_after : (k : Key) (es : List (Key × Row)) → AllKeyed es → AllByRecursion (λ y. key_cmp k y ≡ Less) (keys_of es) → list_all (is_after k) (rows_of es) ≡ true
+all_after : (k : Key) (es : List (Key × Row)) → AllKeyed es → AllByRecursion (λ y. key_cmp k y ≡ Less) (keys_of es)
+    → list_all (is_after k) (rows_of es) ≡ true
 all_after k [] h above = refl
-all_after k (e ∷ es) h above = rw (ap (λ j. is_lt (key_cmp k j)) (sym h.0) ∙ ap is_lt above.0) (all_after k es h.1 above.1)
+all_after k (e ∷ es) h above = rw (ap (λ j. is_lt (key_cmp k j)) (sym h.0) ∙ ap is_lt above.0)
+    (all_after k es h.1 above.1)
 
 pub rising-rows : (es : List (Key × Row)) → AllKeyed es → IsRising key_cmp es → is_rising (rows_of es) ≡ true
 unfolding IsStrictlySortedBy
 rising-rows [] h rising = refl
 rising-rows (e ∷ es) h rising =
-    let behind = all_after e.1.key es h.1 (subst (λ j. AllByRecursion (λ y. key_cmp j y ≡ Less) (keys_of es)) h.0 rising.0) in
+    let behind = all_after e.1.key es h.1
+    (subst (λ j. AllByRecursion (λ y. key_cmp j y ≡ Less) (keys_of es)) h.0 rising.0) in
     rw behind (rising-rows es h.1 rising.1)
 
-keyed-insert : (k : Key) (row : Row) (es : List (Key × Row)) → k ≡ row.key → AllKeyed es → AllKeyed (insert_entry key_cmp es k row)
+keyed-insert : (k : Key) (row : Row) (es : List (Key × Row)) → k ≡ row.key → AllKeyed es
+    → AllKeyed (insert_entry key_cmp es k row)
 keyed-insert k row [] same h = (same, tt)
 keyed-insert k row (e ∷ es) same h = by (key_cmp k e.0) refl (keyed-insert k row es same h.1)
   where
-    by : (r : Ordering) → key_cmp k e.0 ≡ r → AllKeyed (insert_entry key_cmp es k row) → AllKeyed (match_ordering r ((k, row) ∷ e ∷ es) ((e.0, row) ∷ es) (e ∷ insert_entry key_cmp es k row))
+    by : (r : Ordering) → key_cmp k e.0 ≡ r → AllKeyed (insert_entry key_cmp es k row)
+        → AllKeyed (match_ordering r ((k, row) ∷ e ∷ es) ((e.0, row) ∷ es) (e ∷ insert_entry key_cmp es k row))
     by Less is more = (same, h)
     by Equal is more = (sym (same_equal k e.0 (ap is_eq is)) ∙ same, h.1)
     by Greater is more = (h.0, more)
 
 keyed-without : (k : Key) (es : List (Key × Row)) → AllKeyed es → AllKeyed (without_key key_cmp es k)
 keyed-without k [] h = tt
-keyed-without k (e ∷ es) h = elim (key_cmp k e.0) as (λ r. AllKeyed (if is_eq r then es else e ∷ without_key key_cmp es k)) [
-  | Less ↦ (h.0, keyed-without k es h.1)
-  | Equal ↦ h.1
-  | Greater ↦ (h.0, keyed-without k es h.1)
-]
+keyed-without k (e ∷ es) h = elim (key_cmp k e.0) as
+    (λ r. AllKeyed (if is_eq r then es else e ∷ without_key key_cmp es k)) [
+      | Less ↦ (h.0, keyed-without k es h.1)
+      | Equal ↦ h.1
+      | Greater ↦ (h.0, keyed-without k es h.1)
+    ]
 
 pub IsKeyed-insert : (row : Row) (es : List (Key × Row)) → IsKeyed es → IsKeyed (insert_entry key_cmp es row.key row)
-IsKeyed-insert row es h = record { keyed = keyed-insert row.key row es refl h.keyed; rising = IsRising-insert key_total row.key row es h.rising }
+IsKeyed-insert row es h =
+    record {
+      keyed = keyed-insert row.key row es refl h.keyed;
+      rising =
+          IsRising-insert key_total row.key row es h.rising;
+    }
 
 pub IsKeyed-without : (k : Key) (es : List (Key × Row)) → IsKeyed es → IsKeyed (without_key key_cmp es k)
 IsKeyed-without k es h = record { keyed = keyed-without k es h.keyed; rising = IsRising-without key_cmp k es h.rising }
@@ -84,24 +97,33 @@ IsKeyed-without k es h = record { keyed = keyed-without k es h.keyed; rising = I
 flip : (k l : Key) → same_key k l ≡ same_key l k
 flip k l = (eq_by_cmp_equiv key_total).symm k l
 
-pub rows-insert : (row : Row) (es : List (Key × Row)) → IsKeyed es → rows_of (insert_entry key_cmp es row.key row) ≡ rows_with row (rows_of es)
+pub rows-insert : (row : Row) (es : List (Key × Row)) → IsKeyed es → rows_of (insert_entry key_cmp es row.key row)
+    ≡ rows_with row (rows_of es)
 rows-insert row es h =
     let put = IsKeyed-insert row es h in
     same_rows (rows_of (insert_entry key_cmp es row.key row)) (rows_with row (rows_of es))
-    (rising-rows (insert_entry key_cmp es row.key row) put.keyed put.rising) (with_rises row (rows_of es) (rising-rows es h.keyed h.rising))
-    (λ q. row_at-rows q (insert_entry key_cmp es row.key row) put.keyed ∙ (Updates-insert key_total row.key row es q ∙ by q (is_at (key_cmp row.key) q) refl))
+    (rising-rows (insert_entry key_cmp es row.key row) put.keyed put.rising)
+    (with_rises row (rows_of es) (rising-rows es h.keyed h.rising))
+    (λ q. row_at-rows q (insert_entry key_cmp es row.key row) put.keyed ∙
+    (Updates-insert key_total row.key row es q ∙ by q (is_at (key_cmp row.key) q) refl))
   where
-    by : (q : Key) (b : Bool) → same_key row.key q ≡ b → (if b then Some row else value_at key_cmp es q) ≡ row_at q (rows_with row (rows_of es))
-    by q true e = sym (with_at row (rows_of es)) ∙ ap (λ k. row_at k (rows_with row (rows_of es))) (same_equal row.key q e)
+    by : (q : Key) (b : Bool) → same_key row.key q ≡ b → (if b then Some row else value_at key_cmp es q)
+        ≡ row_at q (rows_with row (rows_of es))
+    by q true e = sym (with_at row (rows_of es))
+        ∙ ap (λ k. row_at k (rows_with row (rows_of es))) (same_equal row.key q e)
     by q false e = sym (row_at-rows q es h.keyed) ∙ sym (others_with row q (rows_of es) (flip q row.key ∙ e))
 
-pub rows-without : (k : Key) (es : List (Key × Row)) → IsKeyed es → rows_of (without_key key_cmp es k) ≡ rows_without k (rows_of es)
+pub rows-without : (k : Key) (es : List (Key × Row)) → IsKeyed es → rows_of (without_key key_cmp es k)
+    ≡ rows_without k (rows_of es)
 rows-without k es h =
     let left = IsKeyed-without k es h in
     same_rows (rows_of (without_key key_cmp es k)) (rows_without k (rows_of es))
-    (rising-rows (without_key key_cmp es k) left.keyed left.rising) (edited_rises (Remove k) (rows_of es) (rising-rows es h.keyed h.rising))
-    (λ q. row_at-rows q (without_key key_cmp es k) left.keyed ∙ (Updates-without key_total k es h.rising q ∙ by q (is_at (key_cmp k) q) refl))
+    (rising-rows (without_key key_cmp es k) left.keyed left.rising)
+    (edited_rises (Remove k) (rows_of es) (rising-rows es h.keyed h.rising))
+    (λ q. row_at-rows q (without_key key_cmp es k) left.keyed ∙
+    (Updates-without key_total k es h.rising q ∙ by q (is_at (key_cmp k) q) refl))
   where
-    by : (q : Key) (b : Bool) → same_key k q ≡ b → (if b then None else value_at key_cmp es q) ≡ row_at q (rows_without k (rows_of es))
+    by : (q : Key) (b : Bool) → same_key k q ≡ b → (if b then None else value_at key_cmp es q)
+        ≡ row_at q (rows_without k (rows_of es))
     by q true e = sym (without_at k (rows_of es)) ∙ ap (λ j. row_at j (rows_without k (rows_of es))) (same_equal k q e)
     by q false e = sym (row_at-rows q es h.keyed) ∙ sym (others_without k q (rows_of es) (flip q k ∙ e))

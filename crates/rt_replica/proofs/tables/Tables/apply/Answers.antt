@@ -13,7 +13,8 @@ overflow_add-self c =
     let old = c.in-Some.rows.now in
     let before = c.len.ensures.len in
     let after = c.len-in-Some.ensures.len in
-    let longer : length c.apply.new.self ≤ length old + 1 = rw c.in_ok-apply-in-Some.ensures.ok (edited_len c.args.edit.now old) in
+    let longer : length c.apply.new.self ≤ length old + 1 = rw c.in_ok-apply-in-Some.ensures.ok
+    (edited_len c.args.edit.now old) in
     let all = c.self.invariant.counted in
     let cleared = counted-set c.args.table c.self.inside.tables.items old [] within c.in-Some.ensures.value in
     let range = c.self.ranges in
@@ -31,7 +32,8 @@ invariant_of-self-in-Some c =
     let cleared = counted-set c.args.table c.self.inside.tables.items old [] within c.in-Some.ensures.value in
     let set = counted-set c.args.table c.self.inside.tables.items old c.apply.new.self within c.in-Some.ensures.value in
     record {
-      rising = rising-set c.args.table c.self.inside.tables.items c.apply.new.self c.self.invariant.rising c.len-in-Some.ensures.rising;
+      rising = rising-set c.args.table c.self.inside.tables.items c.apply.new.self c.self.invariant.rising
+          c.len-in-Some.ensures.rising;
       counted = omega (arith, before, after, all, cleared, set);
     }
 
@@ -41,7 +43,8 @@ returns-in_ok-apply-in-Some-clause-ok c =
     let len = c.self.inside.tables.ok in
     let within : c.args.table < length c.self.inside.tables.items = omega (arith, place, len) in
     ap (λ r. slice_set c.self.inside.tables.items c.args.table r) c.in_ok-apply-in-Some.ensures.ok
-    ∙ changed-set (edited_rows c.args.edit.now) c.args.table c.self.inside.tables.items c.in-Some.rows.now within c.in-Some.ensures.value
+    ∙ changed-set (edited_rows c.args.edit.now) c.args.table c.self.inside.tables.items c.in-Some.rows.now within
+    c.in-Some.ensures.value
     ∙ ap (λ l. changed_at c.args.table (edited_rows c.args.edit.now) l) c.self.view_is
 
 pub returns-in-None-clause-ok : goal.returns-in-None-clause-ok
