@@ -1,7 +1,8 @@
 -- Lists cut at a byte, and lists compared one element at a time.
 use Rattle.std.proofs.Common.{codes, ◌^◌, Option, Some, None, length-append, ◌≡◌, ◌≢◌, ℕ, zero, suc, ◌+◌, ◌<◌, List, []}
 use Rattle.std.proofs.Common.{◌∷◌, ◌++◌, length, Bor, refl, ap, sym, arith, ◌∙◌}
-use Rattle.rt_form.specs.Script.{Lacks, AreLines, AreParts, slot_line}
+use Rattle.rt_wal.specs.Records.{without_last}
+use Rattle.rt_form.specs.Script.{Lacks, AreEnded, AreLines, AreParts, slot_line}
 use Rattle.std.specs.Prelude.{slice_index, MatchOption, ◌%◌, not, Bool, true, false, IsTrue, ◌↔◌}
 use Rattle.std.specs.Fmt.{decimal}
 use Rattle.std.specs.Str.{bytes_eq}
@@ -83,14 +84,24 @@ same_slot word a b x y small_a small_b e =
     (append_cancel_left word _ _ e) in
     (decimal_injective a b small_a small_b same.0, same.1)
 
-pub same_lines : {text o f w p a b c d : List ℕ} → AreLines text o f w p → AreLines text a b c d → (o ≡ a) × (f ≡ b)
+same_ended : {text o f w p a b c d : List ℕ} → AreEnded text o f w p → AreEnded text a b c d → (o ≡ a) × (f ≡ b)
     × (w ≡ c) × (p ≡ d)
-same_lines {text} {o} {f} {w} {p} {a} {b} {c} {d} g h =
+same_ended {text} {o} {f} {w} {p} {a} {b} {c} {d} g h =
     let one = cut_once 10 o a _ _ g.open_ends h.open_ends (sym g.are ∙ h.are) in
     let two = cut_once 10 f b _ _ g.frame_ends h.frame_ends one.1 in
     let three = cut_once 10 w c _ _ g.wal_ends h.wal_ends two.1 in
     let four = cut_once 10 p d _ _ g.poll_ends h.poll_ends three.1 in
     (one.0, two.0, three.0, four.0)
+
+pub same_lines : {text o f w p a b c d : List ℕ} → AreLines text o f w p → AreLines text a b c d → (o ≡ a) × (f ≡ b)
+    × (w ≡ c) × (p ≡ d)
+same_lines g h =
+    let s = same_ended g.ended h.ended in (
+      g.open_is ∙ ap (without_last 13) s.0 ∙ sym h.open_is,
+      g.frame_is ∙ ap (without_last 13) s.1 ∙ sym h.frame_is,
+      g.wal_is ∙ ap (without_last 13) s.2 ∙ sym h.wal_is,
+      g.poll_is ∙ ap (without_last 13) s.3 ∙ sym h.poll_is,
+    )
 
 pub unequal_texts : (xs ys : List ℕ) (b : Bool) → b ≡ not (bytes_eq xs ys) → b ≡ true → xs ≡ ys → ⊥
 unequal_texts xs ys b is differ e = let t : bytes_eq xs ys ≡ true = (bytes_eq-Decides xs ys).1 e in

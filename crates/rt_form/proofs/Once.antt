@@ -2,7 +2,7 @@
 use Rattle.std.proofs.Common.{◌≡◌, ◌≢◌, ℕ, Bool, true, false, List, [], ◌∷◌, codes, refl, ap, sym, ◌∙◌, arith}
 use Rattle.std.specs.Prelude.{slice_index}
 use Rattle.rt_form.specs.Messages.{shown_type}
-use Rattle.rt_form.specs.Statements.{AreNamed, column_words, columns_words, grant_words, key_words, role_words}
+use Rattle.rt_form.specs.Statements.{AreNamed, all_words, column_words, columns_words, grant_words, key_words, role_words}
 use Rattle.rt_form.specs.Statements.{table_words}
 use Rattle.rt_form.specs.declared.catalogue.ColumnType.{ColumnType}
 use Rattle.rt_form.specs.declared.catalogue.ColumnType.TheVariants as t
@@ -80,6 +80,14 @@ grant_once g h = let rest = two_twice refl (two_twice refl (two_twice g h)) in (
 pub grant_of : {words r : List (List ℕ)} {a b x y : List ℕ} → x ≡ a → y ≡ b → words ≡ grant_words a b r
     → words ≡ grant_words x y r
 grant_of e f g = rw (e, f) g
+
+-- the words of the three statements, one behind the other
+pub all_of : {words granting granted rest : List (List ℕ)} (m a b r : List ℕ) {x y : List ℕ} (s t : ColumnType) (k : Bool)
+    → words ≡ table_words m a s b t k granting → granting ≡ role_words r granted → granted ≡ grant_words x y rest
+    → x ≡ m → y ≡ r → rest ≡ [] → words ≡ all_words m a s b t k r
+all_of m a b r s t k e f g table role none =
+    e ∙ ap (table_words m a s b t k) (f ∙ ap (role_words r) (g ∙ ap (λ n. grant_words n _ _) table
+    ∙ ap (λ n. grant_words m n _) role ∙ ap (grant_words m r) none))
 
 pub named_once : {words : List (List ℕ)} {m n a b x y v w : List ℕ} {s t p q : ColumnType} {k l : Bool}
     → AreNamed words m a s b t k v → AreNamed words n x p y q l w

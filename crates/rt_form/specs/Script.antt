@@ -7,6 +7,7 @@ use Rattle.rt_json.specs.Grammar.{IsJson}
 use Rattle.rt_json.specs.declared.tree.Json.{Json, Num, Text}
 use Rattle.rt_json.specs.declared.tree.Json.TheVariants as j
 use Rattle.rt_json.specs.Trees.{field}
+use Rattle.rt_wal.specs.Records.{without_last}
 use Rattle.rt_form.specs.Messages.{wanted_binding}
 use Rattle.rt_form.specs.declared.catalogue.ColumnType.{ColumnType}
 use Rattle.rt_form.specs.declared.catalogue.ColumnType.TheVariants as t
@@ -24,13 +25,25 @@ Lacks byte bytes = (i : ℕ) → i < length bytes → slice_index bytes i ≢ by
 abbrev pub slot_line : List ℕ → ℕ → List ℕ → List ℕ
 slot_line word slot rest = word ++ (decimal slot ++ 32 ∷ rest)
 
--- the text is these four lines, each ended by LF
-pub record AreLines (text open_ frame wal poll : List ℕ) : Type 0 where
+-- the text is these four, each with an LF behind it
+pub record AreEnded (text open_ frame wal poll : List ℕ) : Type 0 where
   pub open_ends : Lacks 10 open_
   pub frame_ends : Lacks 10 frame
   pub wal_ends : Lacks 10 wal
   pub poll_ends : Lacks 10 poll
   pub are : text ≡ open_ ++ 10 ∷ (frame ++ 10 ∷ (wal ++ 10 ∷ (poll ++ 10 ∷ [])))
+
+-- the text is these four lines, each ended by LF; a CR before the LF is no part of the line
+pub record AreLines (text open_ frame wal poll : List ℕ) : Type 0 where
+  pub opening : List ℕ
+  pub framing : List ℕ
+  pub entry : List ℕ
+  pub polling : List ℕ
+  pub ended : AreEnded text opening framing entry polling
+  pub open_is : open_ ≡ without_last 13 opening
+  pub frame_is : frame ≡ without_last 13 framing
+  pub wal_is : wal ≡ without_last 13 entry
+  pub poll_is : poll ≡ without_last 13 polling
 
 -- `open SLOT 1.0.0 CLAIMS`, `frame SLOT TEXT`, `wal RECORD` and `poll`
 abbrev pub AreParts : List ℕ → ℕ → List ℕ → List ℕ → List ℕ → Type 0

@@ -62,18 +62,20 @@ fn catalogue_of(alloc: Global, words: &[Text]) -> Result<Catalogue, FormFault>
         → MatchResult result (λ found. found ≡ catalogue) (λ fault. fault ≡ FormFault.NoMemory) }
 {
     match names_in(words) {
-        Some((table, first, first_type, second, second_type, is_key, role)) => {
-            let first = column_in(alloc, first, first_type)?;
-            let second = column_in(alloc, second, second_type)?;
-            let columns = columns_in(alloc, first, second)?;
-            Ok(catalogue_in(alloc, table, columns, key_place(is_key), role)?)
+        Some(names) => {
+            let columns = names.table.columns;
+            let first = column_in(alloc, columns.first, columns.first_type)?;
+            let second = column_in(alloc, columns.second, columns.second_type)?;
+            let both = columns_in(alloc, first, second)?;
+            let key = key_place(columns.second_is_key);
+            Ok(catalogue_in(alloc, names.table.name, both, key, names.role)?)
         }
         None => Err(FormFault::NotBuilt),
     }
 }
 
-/// The catalogue that a text is. `NotBuilt` where it isn't three statements of the built form: a table of two columns
-/// with one key column, a role, and the grant to it.
+/// The catalogue that a text is. `NotBuilt` where it isn't three statements of the built form: a
+/// table of two columns with one key column, a role, and the grant to it.
 pub fn read_catalogue(alloc: Global, bytes: &[u8]) -> Result<Catalogue, FormFault>
     ensures found { IfOk result (λ catalogue. IsCatalogue bytes.now catalogue) }
     ensures only { (catalogue : c.Catalogue) → IsCatalogue bytes.now catalogue

@@ -1,7 +1,8 @@
 ghost use Rattle.std.specs.Prelude.{◌≡◌, ◌↔◌, ◌++◌, ◌∷◌, ◌≤◌, ◌<◌, ℕ, List, codes, IfOk, IfErr};
 ghost use Rattle.std.specs.Prelude.{IsTrue, MatchOption, MatchResult, OnOk};
 ghost use Rattle.std.specs.Fmt.{decimal};
-ghost use Rattle.rt_form.specs.Script.{AreLines, AreParts, AreSaid, IsClaims, IsScript, Lacks};
+ghost use Rattle.rt_wal.specs.Records.{without_last};
+ghost use Rattle.rt_form.specs.Script.{AreEnded, AreLines, AreParts, AreSaid, IsClaims, IsScript, Lacks};
 ghost use Rattle.rt_form.specs.Script.{claims_tree, slot_line};
 ghost use Rattle.rt_form.specs.declared.script.Script as script;
 
@@ -55,11 +56,11 @@ fn slot_and_rest<'a>(line: &'a str, word: &str) -> Option<(u8, &'a str)>
     Some((slot_of(slot)?, rest))
 }
 
-/// The four lines of a text, each ended by LF, and nothing behind them.
-fn lines_of(text: &str) -> Option<(&str, &str, &str, &str)>
+/// Four parts of a text, each with an LF behind it, and nothing behind them.
+fn ended_lines(text: &str) -> Option<(&str, &str, &str, &str)>
     ensures { MatchOption result ((opening frame wal poll : List ℕ)
-        → AreLines text.now opening frame wal poll → ⊥)
-        (λ lines. AreLines text.now lines.0.now lines.1.now lines.2.now lines.3.now) }
+        → AreEnded text.now opening frame wal poll → ⊥)
+        (λ lines. AreEnded text.now lines.0.now lines.1.now lines.2.now lines.3.now) }
 {
     let (opening, rest) = cut(text, '\n')?;
     let (frame, rest) = cut(rest, '\n')?;
@@ -70,6 +71,31 @@ fn lines_of(text: &str) -> Option<(&str, &str, &str, &str)>
     } else {
         None
     }
+}
+
+/// A line without a CR at its end.
+fn without_cr(line: &str) -> &str
+    ensures { result.now ≡ without_last 13 line.now }
+{
+    match line.strip_suffix('\r') {
+        Some(rest) => rest,
+        None => line,
+    }
+}
+
+/// The four lines of a text, each ended by LF, and nothing behind them. A CR before an LF is no part of a line.
+fn lines_of(text: &str) -> Option<(&str, &str, &str, &str)>
+    ensures { MatchOption result ((opening frame wal poll : List ℕ)
+        → AreLines text.now opening frame wal poll → ⊥)
+        (λ lines. AreLines text.now lines.0.now lines.1.now lines.2.now lines.3.now) }
+{
+    let (opening, frame, wal, poll) = ended_lines(text)?;
+    Some((
+        without_cr(opening),
+        without_cr(frame),
+        without_cr(wal),
+        without_cr(poll),
+    ))
 }
 
 /// The slot, the claims, the frame and the record of a text's lines.

@@ -16,7 +16,8 @@ returns-in_err-catalogue-clause-only c = λ catalogue h.
     let Q : List (List ℕ) → Type 0 = λ ws. AreStatements ws catalogue in
     let same = c.in_ok-words.ensures.only h.words (subst P (sym c.in-Ok.ensures.cases.0) h.written) in
     let p = err_from_is_err_and c.from_residual-in_err-catalogue.result c.from_residual-in_err-catalogue.ensures.1 in
-    rw (p.1, p.2) (c.in_err-catalogue.ensures.only catalogue (subst Q (sym (c.as_slice.ensures.value ∙ same)) h.statements))
+    rw (p.1, p.2) (c.in_err-catalogue.ensures.only catalogue
+    (subst Q (sym (c.as_slice.ensures.value ∙ same)) h.statements))
 
 pub returns-clause-only : goal.returns-clause-only
 returns-clause-only c = λ catalogue h.
