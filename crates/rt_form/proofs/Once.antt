@@ -82,12 +82,12 @@ pub grant_of : {words r : List (List ℕ)} {a b x y : List ℕ} → x ≡ a → 
 grant_of e f g = rw (e, f) g
 
 -- the words of the three statements, one behind the other
-pub all_of : {words granting granted rest : List (List ℕ)} (m a b r : List ℕ) {x y : List ℕ} (s t : ColumnType) (k : Bool)
-    → words ≡ table_words m a s b t k granting → granting ≡ role_words r granted → granted ≡ grant_words x y rest
+pub all_of : {words granting granted : List (List ℕ)} (rest : List (List ℕ)) (m a b r x y : List ℕ) (s t : ColumnType)
+    (k : Bool) → words ≡ table_words m a s b t k granting → granting ≡ role_words r granted → granted ≡ grant_words x y rest
     → x ≡ m → y ≡ r → rest ≡ [] → words ≡ all_words m a s b t k r
-all_of m a b r s t k e f g table role none =
-    e ∙ ap (table_words m a s b t k) (f ∙ ap (role_words r) (g ∙ ap (λ n. grant_words n _ _) table
-    ∙ ap (λ n. grant_words m n _) role ∙ ap (grant_words m r) none))
+all_of rest m a b r x y s t k e f g table role none =
+    e ∙ ap (table_words m a s b t k) (f ∙ ap (role_words r) (g ∙ ap (λ n. grant_words n y rest) table
+    ∙ ap (λ n. grant_words m n rest) role ∙ ap (grant_words m r) none))
 
 pub named_once : {words : List (List ℕ)} {m n a b x y v w : List ℕ} {s t p q : ColumnType} {k l : Bool}
     → AreNamed words m a s b t k v → AreNamed words n x p y q l w

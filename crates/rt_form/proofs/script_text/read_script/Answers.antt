@@ -1,4 +1,4 @@
-use Rattle.std.proofs.Common.{List, ℕ, subst}
+use Rattle.std.proofs.Common.{List, ℕ, subst, sym}
 use Rattle.std.proofs.lemmas.Result.{err_from_is_err_and}
 use Rattle.rt_form.specs.Script.{AreParts}
 use Rattle.rt_form.proofs.Equal.{said_same}
@@ -21,3 +21,8 @@ returns-in_ok-script-in-Some-clause-only c = λ script h.
     let same = parts_once _ _ _ _ _ _ _ _ _ (subst P c.in-Ok.ensures.cases.0 c.in-Some.ensures) h.parts in
     let here = said_same _ _ _ _ _ _ _ _ _ script same.0 same.1 same.2 same.3 h.said in
     c.in_ok-script-in-Some.ensures.only script here
+
+pub returns-in-None-clause-only : goal.returns-in-None-clause-only
+returns-in-None-clause-only c = λ script h.
+    let P : List ℕ → Type 0 = λ t. AreParts t h.slot h.claims h.frame h.line in
+    absurd (c.in-None.ensures h.slot h.claims h.frame h.line (subst P (sym c.in-Ok.ensures.cases.0) h.parts))
