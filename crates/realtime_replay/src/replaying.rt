@@ -13,8 +13,9 @@ use crate::fault::RunFault;
 use crate::status::{Status, status_of, status_without_words};
 use crate::words::command_of;
 use rt_first::laws::given_is_due;
-use rt_form::{Catalogue, Script};
-use rt_form::{change, join_reply, print_slot, read_catalogue, read_script, subscribed};
+use rt_form::{
+    Catalogue, Script, change, join_reply, print_slot, read_catalogue, read_script, subscribed,
+};
 use rt_io::{Sink, Source, read_all, write_all};
 use rt_value::Bytes;
 use std::alloc::{AllocError, Global};
