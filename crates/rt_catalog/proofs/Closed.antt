@@ -4,7 +4,7 @@ use Rattle.std.proofs.Common.{length, map, Option, Some, None, refl, ap, sym, �
 use Rattle.std.specs.List.{list_any, flat_map, range_with_len}
 use Rattle.std.proofs.lemmas.Bool.{and_parts, and_from, or_cases, eqb-true, eq-eqb, ne_eqb, not_from_false, cases_lt}
 use Rattle.std.proofs.lemmas.Bool.{cases_eq}
-use Rattle.rt_value.proofs.Among.{Among, among_left, among_right, among_either, among_flat, among_map, map_among}
+use Rattle.rt_value.proofs.Among.{Among, among_left, among_right, among_either, among_flat, among_map, map_among, flat_among}
 use Rattle.rt_value.proofs.Among.{among_filter, filter_among}
 use Rattle.rt_value.proofs.Plain.{any_among}
 use Rattle.rt_catalog.specs.declared.catalog.Grant.{Grant}
@@ -31,13 +31,6 @@ in_range a (suc n) k h lt =
       | inl less ↦ inr (in_range (a + 1) n k (omega arith) (omega arith))
       | inr more ↦ let same : a ≡ k = omega arith in inl same
     ]
-
-flat_among : {A B : Type 0} (f : A → List B) (xs : List A) (x : A) (y : B) → Among xs x → Among (f x) y
-    → Among (flat_map f xs) y
-flat_among f [] x y h k = absurd h
-flat_among {A} {B} f (z ∷ xs) x y (inl e) k =
-    let P : A → Type 0 = λ w. Among (f w) y in among_left (f z) (flat_map f xs) y (subst P (sym e) k)
-flat_among f (z ∷ xs) x y (inr h) k = among_right (f z) (flat_map f xs) y (flat_among f xs x y h k)
 
 -- who is there in the list of a role's heirs
 heir_is : (l : Lists) (role other : ℕ) → Among (heirs l other) role → IsUnder l role other

@@ -4,6 +4,7 @@ use Rattle.std.proofs.Common.{refl, ap, sym, ◌∙◌, arith, inl, inr, length-
 use Rattle.std.specs.Prelude.{Contains}
 use Rattle.std.specs.List.{AllByRecursion, list_any, filter_map, cons_option}
 use Rattle.std.proofs.lemmas.List.Elements.{filter_map-append}
+use Rattle.rt_value.proofs.Tests.{same_tests}
 use Rattle.rt_value.specs.Choice.{is_at}
 use Rattle.rt_value.proofs.Among.{to_contains, from_contains, among_filter_map}
 use Rattle.rt_value.proofs.Plain.{filter_same}
@@ -56,11 +57,6 @@ memberships_named l rows m = (to, from) where
 
 -- by names
 
-two_ways : (a b : Bool) → (a ≡ true → b ≡ true) → (b ≡ true → a ≡ true) → a ≡ b
-two_ways true b f g = sym (f refl)
-two_ways false true f g = absurd (let z : false ≡ true = g refl in cc)
-two_ways false false f g = refl
-
 module _ (l : Lists) (sound : IsSound l) where
   abbrev names : List GrantRow
   names = filter_map (row_of l) l.grants
@@ -80,7 +76,7 @@ module _ (l : Lists) (sound : IsSound l) where
 
   -- a row stands by its numbers where it does by its names
   stands_so : (r : GrantRow) → list_any (same_row r) names ≡ is_granted l r
-  stands_so r = two_ways (list_any (same_row r) names) (is_granted l r) to from where
+  stands_so r = same_tests (list_any (same_row r) names) (is_granted l r) to from where
     to : list_any (same_row r) names ≡ true → is_granted l r ≡ true
     to h =
         let (g, at, named) = among_filter_map (row_of l) l.grants r (among_same same_row row_decides r names h) in

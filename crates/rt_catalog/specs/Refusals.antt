@@ -5,13 +5,14 @@ use Rattle.std.specs.Prelude.{length, slice_get, find, Option, Some, None, optio
 use Rattle.std.specs.Prelude.{Result, Ok, Err}
 use Rattle.std.specs.List.{list_any, list_all, flat_map, range_with_len}
 use Rattle.std.specs.Str.{bytes_eq}
+use Rattle.std.specs.Option.{option_or}
 use Rattle.rt_value.specs.declared.value.Kind.{Kind}
 use Rattle.rt_value.specs.declared.value.Kind.TheVariants.{Opaque, Json}
 use Rattle.rt_value.specs.Choice.{is_at}
 use Rattle.rt_policy.specs.declared.judge.Judge.{Judge}
 use Rattle.rt_policy.specs.declared.fault.ExprFault.{ExprFault}
 use Rattle.rt_policy.specs.declared.fault.ExprFault.TheVariants as fault
-use Rattle.rt_policy.specs.Resolution.{resolved, or_else}
+use Rattle.rt_policy.specs.Resolution.{resolved}
 use Rattle.rt_policy.specs.Readings.{TableReading}
 use Rattle.rt_policy.specs.Sizes.{names_in, names_of_type, is_shallow, depth_limit}
 use Rattle.rt_catalog.specs.declared.fault.Why.{Why}
@@ -222,7 +223,7 @@ first_policy test reason l = option_map (λ p. (p.at, reason)) (find test l.poli
 -- hidden columns are asked of the closed lists
 abbrev pub refused_file : Lists → Option Refusal
 refused_file l =
-    or_else (first_policy (is_in_ring l) why.Ring l)
+    option_or (first_policy (is_in_ring l) why.Ring l)
     (first_policy (has_hidden_column (closed l)) why.HiddenColumn (closed l))
 
 abbrev pub refused_at : ℕ → Why → Result Lists Refusal

@@ -2,6 +2,7 @@
 use Rattle.std.specs.Prelude.{◌≡◌, ℕ, ◌==◌, Bool, true, false, ◌&&◌, not, List, [], ◌∷◌, ◌++◌, map, slice_get, find, Option, Some, None, option_map, unwrap_or, Result, Ok, Err}
 use Rattle.std.specs.List.{list_any, list_all, filter_map}
 use Rattle.std.specs.Str.{bytes_eq}
+use Rattle.std.specs.Option.{option_or}
 use Rattle.rt_value.specs.declared.value.Value.{Value}
 use Rattle.rt_value.specs.declared.value.Value.TheVariants as value
 use Rattle.rt_value.specs.declared.value.Kind.{Kind}
@@ -180,15 +181,11 @@ abbrev pub put : Option Key → Option Key → List (Option Value) → Edit
 put old None cells = edit.Nothing
 put old (Some new) cells = edit.Put old new cells
 
-abbrev pub or_else : {A : Type 0} → Option A → Option A → Option A
-or_else None other = other
-or_else (Some x) other = Some x
-
 -- An insert puts the row of its cells. An update takes away the row of the old key, which is the identity's where that gives the whole key and
 -- else the new key, and puts a row under the new key. A delete removes the row of the identity's key, where that gives the whole key.
 abbrev pub edit_by : Verb → Table → List (Option Value) → List (Option Value) → Edit
 edit_by Insert t new old = put None (key_in t new) new
-edit_by Update t new old = put (or_else (key_in t old) (key_in t new)) (key_in t new) new
+edit_by Update t new old = put (option_or (key_in t old) (key_in t new)) (key_in t new) new
 edit_by Delete t new old = removal (key_in t old)
 edit_by Truncate t new old = edit.Clear
 

@@ -1,6 +1,6 @@
 -- Computed but for what the policies are of the rows, which goes by their folds.
 use Rattle.std.proofs.Common.{◌≡◌, ℕ, List, [], ◌∷◌, ◌++◌, ◌||◌, ◌&&◌, not, true, false, refl, ap, ◌∙◌, Bool}
-use Rattle.std.specs.Prelude.{if◌then◌else◌, codes}
+use Rattle.std.specs.Prelude.{if◌then◌else◌, codes, pos}
 use Rattle.std.specs.List.{flat_map}
 use Rattle.rt_value.specs.declared.value.Value.TheVariants as value
 use Rattle.rt_value.specs.declared.row.Row.{Row}
@@ -21,17 +21,23 @@ use Rattle.rt_examples.proofs.Polls.{members_after_poll}
 use Rattle.rt_examples.specs.Computes.{computes}
 use Rattle.rt_examples.specs.Notes.{settings}
 use Rattle.rt_examples.specs.Policies.{is_shared, own_is, is_shared_is, owns}
-use Rattle.rt_examples.specs.Rooms.{MembersSeeRooms, rooms, room_rules, room_key, member_key, user, of_role}
+use Rattle.rt_examples.specs.Faces.{lobby_id, room_key}
+use Rattle.rt_examples.specs.Rooms.{MembersSeeRooms, RoomIsShown, rooms, room_rules, member_key, user, of_role}
 use Rattle.rt_examples.specs.Rooms.{joined, made, left, gone}
 
 abbrev who : ℕ → Who
 who n = record { role = 1; bypass = false; claims = user n }
 
 abbrev room : List ℕ → Row
-room title = record { key = room_key; values = value.Uuid 17 ∷ value.Text title ∷ [] }
+room title =
+    record {
+      key = room_key;
+      values =
+          value.Uuid lobby_id ∷ value.Text title ∷ value.Opaque ∷ value.Moment (pos 1704067200000000) ∷ [];
+    }
 
 abbrev member : Row
-member = record { key = member_key; values = value.Uuid 17 ∷ value.Uuid 161 ∷ [] }
+member = record { key = member_key; values = value.Uuid lobby_id ∷ value.Uuid 161 ∷ [] }
 
 -- the tables with the room, and the members' rows
 abbrev rows : List ℕ → List Row → ℕ → List Row
@@ -202,3 +208,7 @@ members_see_rooms_holds =
     ∙ ap (λ a. lines a in_second in_third) (first_judged ∙ ap first_poll seen_in_lobby)
     ∙ ap (λ b. lines first b in_third) (second_judged ∙ ap second_poll seen_in_hall)
     ∙ ap (λ c. lines first second c) third_judged
+
+pub room_is_shown_holds : RoomIsShown
+unfolding computes
+room_is_shown_holds = refl

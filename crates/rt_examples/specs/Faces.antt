@@ -1,11 +1,12 @@
 -- A record with a text of a JSON column and a moment with a zone, as it is bound and shown: the text as its tree, the moment in UTC.
-use Rattle.std.specs.Prelude.{◌≡◌, List, [], ◌∷◌, true, false, codes, Option, Some, None, Ok, pos}
+use Rattle.std.specs.Prelude.{◌≡◌, ℕ, List, [], ◌∷◌, ◌++◌, true, false, codes, Option, Some, None, Ok, pos}
 use Rattle.std.proofs.Common.{refl}
 use Rattle.rt_value.specs.declared.edit.Edit.TheVariants.{Put}
+use Rattle.rt_value.specs.declared.row.Key.{Key}
 use Rattle.rt_value.specs.declared.value.Kind.TheVariants as kind
 use Rattle.rt_value.specs.declared.value.Value.{Value}
 use Rattle.rt_value.specs.declared.value.Value.TheVariants as value
-use Rattle.rt_json.specs.declared.tree.Json.{Num, Text}
+use Rattle.rt_json.specs.declared.tree.Json.{Json, Num, Text}
 use Rattle.rt_json.specs.declared.tree.Json.TheVariants as j
 use Rattle.rt_json.specs.Trees.{field}
 use Rattle.rt_json.specs.Written.{written}
@@ -67,10 +68,24 @@ lobby =
       size = 300;
     }
 
-abbrev pub cells : List (Option Value)
-cells =
-    Some (value.Uuid 22685491128062564230891640495451214097) ∷ Some (value.Text (codes "Lobby")) ∷ Some value.Opaque
-    ∷ Some (value.Moment (pos 1704067200000000)) ∷ []
+-- the number of its id
+abbrev pub lobby_id : ℕ
+lobby_id = 22685491128062564230891640495451214097
+
+-- a room's cells, by its title
+abbrev pub room_cells : List ℕ → List (Option Value)
+room_cells title =
+    Some (value.Uuid lobby_id) ∷ Some (value.Text title) ∷ Some value.Opaque ∷ Some (value.Moment (pos 1704067200000000))
+    ∷ []
+
+-- and the trees that are shown of them
+abbrev pub room_trees : List ℕ → List (Option Json)
+room_trees title =
+    Some (Text (codes "11111111-1111-1111-1111-111111111111")) ∷ Some (Text title)
+    ∷ Some (j.Object (field (codes "a") (Num (codes "1")) ∷ [])) ∷ Some (Text (codes "2024-01-01T00:00:00+00:00")) ∷ []
+
+abbrev pub room_key : Key
+room_key = record { values = value.Uuid lobby_id ∷ [] }
 
 -- the change of the record, with its trees as they are shown
 abbrev pub lobby_change : Change
@@ -81,20 +96,24 @@ lobby_change =
       has_key = true;
       size = 300;
       moment = None;
-      new = cells;
+      new = room_cells (codes "Lobby");
       old = None ∷ None ∷ None ∷ None ∷ [];
-      new_trees =
-          Some (Text (codes "11111111-1111-1111-1111-111111111111")) ∷ Some (Text (codes "Lobby"))
-          ∷ Some (j.Object (field (codes "a") (Num (codes "1")) ∷ [])) ∷ Some (Text (codes "2024-01-01T00:00:00+00:00")) ∷ [];
+      new_trees = room_trees (codes "Lobby");
       old_trees = None ∷ None ∷ None ∷ None ∷ [];
-      edit = Put None (record { values = value.Uuid 22685491128062564230891640495451214097 ∷ [] }) cells;
+      edit = Put None room_key (room_cells (codes "Lobby"));
     }
 
 abbrev pub LobbyIsBound : Type 0
 LobbyIsBound = change_of rooms lobby ≡ Ok (bound.Change lobby_change)
 
 -- the data that is sent of it
+abbrev pub lobby_shown : List ℕ
+lobby_shown =
+    codes "{\"schema\":\"public\",\"table\":\"rooms\",\"type\":\"INSERT\",\"commit_timestamp\":null,"
+    ++ codes "\"columns\":[{\"name\":\"id\",\"type\":\"uuid\"},{\"name\":\"title\",\"type\":\"text\"},"
+    ++ codes "{\"name\":\"meta\",\"type\":\"jsonb\"},{\"name\":\"created_at\",\"type\":\"timestamptz\"}],"
+    ++ codes "\"record\":{\"id\":\"11111111-1111-1111-1111-111111111111\",\"title\":\"Lobby\","
+    ++ codes "\"meta\":{\"a\":1},\"created_at\":\"2024-01-01T00:00:00+00:00\"},\"errors\":null}"
+
 abbrev pub TreesAreShown : Type 0
-TreesAreShown =
-    written (shape_of rooms 0 1048576 lobby_change) ≡
-    codes "{\"schema\":\"public\",\"table\":\"rooms\",\"type\":\"INSERT\",\"commit_timestamp\":null,\"columns\":[{\"name\":\"id\",\"type\":\"uuid\"},{\"name\":\"title\",\"type\":\"text\"},{\"name\":\"meta\",\"type\":\"jsonb\"},{\"name\":\"created_at\",\"type\":\"timestamptz\"}],\"record\":{\"id\":\"11111111-1111-1111-1111-111111111111\",\"title\":\"Lobby\",\"meta\":{\"a\":1},\"created_at\":\"2024-01-01T00:00:00+00:00\"},\"errors\":null}"
+TreesAreShown = written (shape_of rooms 0 1048576 lobby_change) ≡ lobby_shown

@@ -7,6 +7,7 @@ use Rattle.rt_value.specs.declared.value.Kind.TheVariants as kind
 use Rattle.rt_value.specs.declared.row.Key.{Key}
 use Rattle.rt_value.specs.declared.edit.Edit.TheVariants.{Put, Remove}
 use Rattle.rt_value.specs.declared.claims.Claims.{Claims}
+use Rattle.rt_json.specs.Written.{written}
 use Rattle.rt_phx.specs.declared.message.Version.TheVariants.{V1}
 use Rattle.rt_policy.specs.declared.judge.Judge.{Judge}
 use Rattle.rt_policy.specs.declared.tables.TableRules.{TableRules}
@@ -15,11 +16,12 @@ use Rattle.rt_policy.specs.Ranks.{has_no_ring, reach}
 use Rattle.rt_catalog.specs.declared.catalog.Catalog.{Catalog}
 use Rattle.rt_catalog.specs.declared.catalog.Table.{Table}
 use Rattle.rt_change.specs.declared.change.Change.{Change}
-use Rattle.rt_change.specs.declared.change.Verb.{Verb}
 use Rattle.rt_change.specs.declared.change.Verb.TheVariants.{Insert, Update, Delete}
+use Rattle.rt_change.specs.Shape.{shape_of}
 use Rattle.rt_entry.specs.declared.input.Input.{Input}
 use Rattle.rt_entry.specs.declared.input.Input.TheVariants.{Opened, Frame, Poll}
 use Rattle.rt_entry.specs.Audit.{audit_lines}
+use Rattle.rt_examples.specs.Faces.{lobby_change, lobby_id, lobby_shown, room_cells, room_key, room_trees, rooms_table}
 use Rattle.rt_examples.specs.Notes.{settings}
 use Rattle.rt_examples.specs.Policies.{own, is_shared, reach_own, reach_is_shared}
 use Rattle.rt_examples.specs.Texts.{join_for}
@@ -47,19 +49,8 @@ room_rules_descend =
     ap (λ n. (nat_le n 1 && true) && ((nat_le (reach room_rules own) 0 && true) && true)) (reach_is_shared room_rules)
     ∙ ap (λ n. (true && true) && ((nat_le n 0 && true) && true)) (reach_own room_rules)
 
--- create table rooms (id uuid primary key, title text not null);
+-- create table rooms (id uuid primary key, title text not null, meta jsonb, created_at timestamptz);
 -- create table members (room_id uuid, user_id uuid, primary key (room_id, user_id));
-abbrev pub rooms_table : Table
-rooms_table =
-    record {
-      schema = codes "public";
-      name = codes "rooms";
-      columns =
-          record { name = codes "id"; kind = kind.Uuid; shown = codes "uuid" }
-          ∷ record { name = codes "title"; kind = kind.Text; shown = codes "text" } ∷ [];
-      key = 0 ∷ [];
-    }
-
 abbrev pub members_table : Table
 members_table =
     record {
@@ -89,25 +80,23 @@ user sub = record { role = codes "authenticated"; sub = Some sub; exp = None; me
 abbrev pub of_role : List ℕ → Claims
 of_role role = record { role = role; sub = None; exp = None; members = [] }
 
-abbrev pub room_key : Key
-room_key = record { values = value.Uuid 17 ∷ [] }
-
 abbrev pub member_key : Key
-member_key = record { values = value.Uuid 17 ∷ value.Uuid 161 ∷ [] }
+member_key = record { values = value.Uuid lobby_id ∷ value.Uuid 161 ∷ [] }
 
-abbrev pub put_room : Verb → Option Key → List ℕ → Change
-put_room verb old title =
+-- the room with its columns and another title
+abbrev pub rename_room : Change
+rename_room =
     record {
       table = 0;
-      verb = verb;
+      verb = Update;
       has_key = true;
       size = 300;
       moment = None;
-      new = Some (value.Uuid 17) ∷ Some (value.Text title) ∷ [];
-      old = None ∷ None ∷ [];
-      new_trees = [];
-      old_trees = [];
-      edit = Put old room_key (Some (value.Uuid 17) ∷ Some (value.Text title) ∷ []);
+      new = room_cells (codes "Hall");
+      old = None ∷ None ∷ None ∷ None ∷ [];
+      new_trees = room_trees (codes "Hall");
+      old_trees = None ∷ None ∷ None ∷ None ∷ [];
+      edit = Put (Some room_key) room_key (room_cells (codes "Hall"));
     }
 
 abbrev pub put_member : Change
@@ -118,11 +107,11 @@ put_member =
       has_key = true;
       size = 300;
       moment = None;
-      new = Some (value.Uuid 17) ∷ Some (value.Uuid 161) ∷ [];
+      new = Some (value.Uuid lobby_id) ∷ Some (value.Uuid 161) ∷ [];
       old = None ∷ None ∷ [];
       new_trees = [];
       old_trees = [];
-      edit = Put None member_key (Some (value.Uuid 17) ∷ Some (value.Uuid 161) ∷ []);
+      edit = Put None member_key (Some (value.Uuid lobby_id) ∷ Some (value.Uuid 161) ∷ []);
     }
 
 abbrev pub remove_member : Change
@@ -134,7 +123,7 @@ remove_member =
       size = 300;
       moment = None;
       new = None ∷ None ∷ [];
-      old = Some (value.Uuid 17) ∷ Some (value.Uuid 161) ∷ [];
+      old = Some (value.Uuid lobby_id) ∷ Some (value.Uuid 161) ∷ [];
       new_trees = [];
       old_trees = [];
       edit = Remove member_key;
@@ -148,8 +137,8 @@ remove_room =
       has_key = false;
       size = 300;
       moment = None;
-      new = None ∷ None ∷ [];
-      old = Some (value.Uuid 17) ∷ None ∷ [];
+      new = None ∷ None ∷ None ∷ None ∷ [];
+      old = Some (value.Uuid lobby_id) ∷ None ∷ None ∷ None ∷ [];
       new_trees = [];
       old_trees = [];
       edit = Remove room_key;
@@ -167,11 +156,11 @@ joined =
 
 -- the room with its member 161
 abbrev pub made : List Change
-made = put_member ∷ put_room Insert None (codes "Lobby") ∷ []
+made = put_member ∷ lobby_change ∷ []
 
 -- the member leaves, and the room changes in the same poll
 abbrev pub left : List Change
-left = remove_member ∷ put_room Update (Some room_key) (codes "Hall") ∷ []
+left = remove_member ∷ rename_room ∷ []
 
 -- the room is deleted
 abbrev pub gone : List Change
@@ -183,3 +172,7 @@ MembersSeeRooms =
     codes "8 1 1 delivered\n8 1 2 denied none permits\n8 1 3 delivered\n8 1 4 denied no policy\n"
     ++ codes "9 1 1 denied none permits\n9 1 2 denied none permits\n9 1 3 delivered\n9 1 4 denied no policy\n"
     ++ codes "10 0 1 delivered\n10 0 2 delivered\n10 0 3 delivered\n10 0 4 delivered\n"
+
+-- what the members see of the room at first: the JSON text as its tree, the moment in UTC
+abbrev pub RoomIsShown : Type 0
+RoomIsShown = written (shape_of rooms 1 settings.max_record lobby_change) ≡ lobby_shown

@@ -15,7 +15,7 @@ ghost use Rattle.rt_examples.specs.Frames.{ChannelsAreLimited, FramesAreAnswered
 ghost use Rattle.rt_examples.specs.Errors.{ErrorsAreSent, HiddenKeyIsAnError};
 ghost use Rattle.rt_examples.specs.Deletes.{DeletesShowTheKey};
 ghost use Rattle.rt_examples.specs.Restrictive.{RestrictiveRefuses, StrangersSeeNone};
-ghost use Rattle.rt_examples.specs.Rooms.{MembersSeeRooms};
+ghost use Rattle.rt_examples.specs.Rooms.{MembersSeeRooms, RoomIsShown};
 ghost use Rattle.rt_examples.specs.Audits.{FirstRunIsAudited, RenewalIsAudited};
 ghost use Rattle.rt_examples.specs.Audits.{FiltersAreAudited, DeletesAreAudited};
 ghost use Rattle.rt_examples.specs.Audits.{ErrorsAreAudited, HiddenKeyIsAudited};
@@ -84,9 +84,11 @@ pub fn restrictive()
     ensures strangers { StrangersSeeNone }
 {}
 
-/// A policy reads another table as the same caller sees it.
+/// A policy reads another table as the same caller sees it; its first change is shown with a JSON
+/// tree and a moment.
 pub fn rooms()
-    ensures { MembersSeeRooms }
+    ensures seen { MembersSeeRooms }
+    ensures shown { RoomIsShown }
 {}
 
 /// An update shows a column that only its identity gives, and is judged on the row as the table

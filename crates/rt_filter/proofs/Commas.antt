@@ -1,5 +1,6 @@
 -- Texts with commas between them, put together and taken apart.
 use Rattle.std.proofs.Common.{◌≡◌, ℕ, ◌==◌, Bool, true, false, ◌&&◌, not, cond, List, [], ◌∷◌, ◌++◌, refl, sym, ap, ◌∙◌, inl, inr}
+use Rattle.std.proofs.lemmas.Bool.{and_parts}
 use Rattle.std.proofs.lemmas.Bool.Decides.{eqb_tells}
 use Rattle.std.specs.List.{list_all, join_with_byte, slice_split, onto_first}
 use Rattle.rt_filter.specs.Written.{lacks}
@@ -20,15 +21,11 @@ split_alone (x ∷ xs) h =
       | inr e ↦ (let r = split_alone xs (rw e.0 at h) in rw (e.0, r) refl)
     ]
 
-both : (a b : Bool) → (a && b) ≡ true → (a ≡ true) × (b ≡ true)
-both true b h = (refl, h)
-both false b h = absurd (let e : false ≡ true = h in cc)
-
 pub slice_split-join_with_byte : (p : List ℕ) (ps : List (List ℕ)) → list_all (lacks 44) (p ∷ ps) ≡ true
     → slice_split (λ b. b == 44) (join_with_byte 44 (p ∷ ps)) ≡ p ∷ ps
-slice_split-join_with_byte p [] h = split_alone p (both (lacks 44 p) true h).0
+slice_split-join_with_byte p [] h = split_alone p (and_parts (lacks 44 p) true h).0
 slice_split-join_with_byte p (q ∷ qs) h =
-    let w = both (lacks 44 p) (list_all (lacks 44) (q ∷ qs)) h in
+    let w = and_parts (lacks 44 p) (list_all (lacks 44) (q ∷ qs)) h in
     split_part p (join_with_byte 44 (q ∷ qs)) w.0 ∙ ap (λ (l : List (List ℕ)). p ∷ l) (slice_split-join_with_byte q qs w.1)
 
 onto_lacks : (b : ℕ) (parts : List (List ℕ)) → (b == 44) ≡ false → list_all (lacks 44) parts ≡ true → list_all (lacks 44) (onto_first b parts) ≡ true

@@ -1,7 +1,7 @@
 -- A text in parentheses, put together and taken apart.
 use Rattle.std.proofs.Common.{◌≡◌, ℕ, ◌+◌, ◌-◌, ◌<◌, ◌≤◌, ◌==◌, ◌≢◌, suc, nat_lt, Bool, true, false, ◌&&◌, List, [], ◌∷◌, ◌++◌, length, take, drop, Option, Some, None, codes, refl, sym, ap, ◌∙◌, arith, length-append}
 use Rattle.std.proofs.Math.Seq.{take-append_seam, drop-append_seam}
-use Rattle.std.proofs.lemmas.Bool.{ltb-true}
+use Rattle.std.proofs.lemmas.Bool.{ltb-true, and_parts}
 use Rattle.std.proofs.lemmas.Grind.{common_steps}
 use Rattle.std.proofs.lemmas.List.{take-append-drop}
 use Rattle.std.proofs.lemmas.Slice.Eq.{bytes_eq-Decides}
@@ -20,10 +20,6 @@ inside-append texts h =
     (let e : length whole - 2 ≡ length texts = omega arith in ap (λ (n : ℕ). take n (texts ++ 41 ∷ [])) e ∙ take-append_seam texts (41 ∷ [])) in
     rw (some, last, mid) refl
 
-both : (a b : Bool) → (a && b) ≡ true → (a ≡ true) × (b ≡ true)
-both true b h = (refl, h)
-both false b h = absurd (let e : false ≡ true = h in cc)
-
 in_parentheses : (bytes texts : List ℕ) → take 1 bytes ≡ 40 ∷ [] → drop (length bytes - 1) bytes ≡ 41 ∷ [] → take (length bytes - 2) (drop 1 bytes) ≡ texts
     → 2 < length bytes → bytes ≡ (40 ∷ texts) ++ 41 ∷ []
 in_parentheses [] texts first last mid long = absurd (omega arith)
@@ -39,8 +35,8 @@ in_parentheses (b ∷ bs) texts first last mid long =
 pub inside_parts : (bytes texts : List ℕ) → inside bytes ≡ Some texts → (bytes ≡ (40 ∷ texts) ++ 41 ∷ []) × (nat_lt 2 (length bytes) ≡ true)
 inside_parts bytes texts h =
     let e = some_if_gives (is_in_parentheses bytes) (take (length bytes - 2) (drop 1 bytes)) texts h in
-    let a = both (nat_lt 2 (length bytes) && bytes_eq (take 1 bytes) (codes "(")) (bytes_eq (drop (length bytes - 1) bytes) (codes ")")) e.0 in
-    let b = both (nat_lt 2 (length bytes)) (bytes_eq (take 1 bytes) (codes "(")) a.0 in
+    let a = and_parts (nat_lt 2 (length bytes) && bytes_eq (take 1 bytes) (codes "(")) (bytes_eq (drop (length bytes - 1) bytes) (codes ")")) e.0 in
+    let b = and_parts (nat_lt 2 (length bytes)) (bytes_eq (take 1 bytes) (codes "(")) a.0 in
     let first : take 1 bytes ≡ 40 ∷ [] = (bytes_eq-Decides (take 1 bytes) (40 ∷ [])).0 b.1 in
     let last : drop (length bytes - 1) bytes ≡ 41 ∷ [] = (bytes_eq-Decides (drop (length bytes - 1) bytes) (41 ∷ [])).0 a.1 in
     (in_parentheses bytes texts first last e.1 (ltb-true _ _ b.0), b.0)

@@ -8,6 +8,7 @@ mod filter;
 pub mod laws;
 mod passing;
 mod reading;
+mod sharing;
 mod subscription;
 
 pub use checking::check;
@@ -15,4 +16,5 @@ pub use fault::FilterFault;
 pub use filter::{Filter, Op, Shown, Test};
 pub use passing::{all_pass, passes};
 pub use reading::read;
+pub use sharing::tests_may_be_shared;
 pub use subscription::{Subscription, Wanted};

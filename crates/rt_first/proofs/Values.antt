@@ -1,5 +1,6 @@
 -- A value that fits a column's type is a value of its kind, and isn't null.
 use Rattle.std.proofs.Common.{◌≡◌, ◌⊎◌, inl, inr, ℕ, zero, suc, ◌<◌, ◌≤◌, Bool, true, false, ◌&&◌, List, [], ◌∷◌, ◌++◌, length, ℤ, pos, neg_ℤ, Option, Some, refl, sym, ap, subst, ◌∙◌, arith, cond}
+use Rattle.std.proofs.lemmas.Bool.{and_parts}
 use Rattle.std.specs.Prelude.{◌==◌, nat_lt, nat_le, option_map, drop}
 use Rattle.std.specs.Char.{is_ascii_digit}
 use Rattle.std.specs.List.{list_all}
@@ -7,6 +8,7 @@ use Rattle.std.specs.Str.{all_ascii_digits}
 use Rattle.std.specs.Str.Parse.{digits_value, without_leading_sign, without_leading_plus, signed_digits_value}
 use Rattle.std.proofs.lemmas.Bool.Decides.{nat_tests, eqb_tells}
 use Rattle.std.proofs.lemmas.Str.Parse.{IsNumeralModel, numerals_by_value, tells_all_ascii_digits, digits_value_short}
+use Rattle.rt_value.proofs.Tests.{digits}
 use Rattle.rt_value.specs.declared.value.Value.{Value}
 use Rattle.rt_value.specs.declared.value.Value.TheVariants as value
 use Rattle.rt_value.specs.declared.value.Kind.{Kind}
@@ -21,16 +23,9 @@ use Rattle.rt_form.specs.Script.{without_minus, is_small_number}
 use Rattle.rt_form.specs.declared.catalogue.ColumnType.{ColumnType}
 use Rattle.rt_form.specs.declared.catalogue.ColumnType.TheVariants as type_
 
-both_true : (a b : Bool) → (a && b) ≡ true → (a ≡ true) × (b ≡ true)
-both_true true b e = (refl, e)
-both_true false b e = absurd (cc)
-
 all_digits : (ds : List ℕ) → all_ascii_digits ds ≡ list_all is_ascii_digit ds
 all_digits [] = refl
 all_digits (d ∷ ds) = ap (λ b. is_ascii_digit d && b) (all_digits ds)
-
-digits : IsNumeralModel (λ ds. all_ascii_digits ds ≡ true) (digits_value 10)
-digits = numerals_by_value _ tells_all_ascii_digits
 
 -- digits alone, at least one and at most nine
 pub record AreDigits (ds : List ℕ) : Type 0 where
@@ -83,7 +78,7 @@ digit_no b c d lt = grind (arith, nat_tests)
 
 plain_reads : (b : ℕ) (ds : List ℕ) → AreDigits (b ∷ ds) → ReadsAs (b ∷ ds)
 plain_reads b ds d =
-    let first : is_ascii_digit b ≡ true = (both_true (is_ascii_digit b) (all_ascii_digits ds) d.each).0 in
+    let first : is_ascii_digit b ≡ true = (and_parts (is_ascii_digit b) (all_ascii_digits ds) d.each).0 in
     let minus : (b == 45) ≡ false = digit_no b 45 first (omega arith) in
     let plus : (b == 43) ≡ false = digit_no b 43 first (omega arith) in
     let bare : without_leading_sign (b ∷ ds) ≡ b ∷ ds =
@@ -124,7 +119,7 @@ some_behind text n = by n.minus n.whole n.parts n.is_minus n.is_whole
 
 digits_of : (ds : List ℕ) → 0 < length ds → (nat_le (length ds) 9 && list_all is_ascii_digit ds) ≡ true → AreDigits ds
 digits_of ds some h =
-    let t = both_true (nat_le (length ds) 9) (list_all is_ascii_digit ds) h in
+    let t = and_parts (nat_le (length ds) 9) (list_all is_ascii_digit ds) h in
     record { some = some; few = (let le = t.0 in grind (arith, nat_tests)); each = all_digits ds ∙ t.1 }
 
 pub small_reads : (text : List ℕ) → IsNumber text → is_small_number text ≡ true → ReadsAs text

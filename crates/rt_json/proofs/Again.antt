@@ -3,6 +3,7 @@ use Rattle.std.proofs.Common.{◌≡◌, ℕ, zero, suc, ◌<◌, ◌≤◌, ◌
 use Rattle.std.specs.Prelude.{◌==◌, ◌||◌, encode_utf8}
 use Rattle.std.proofs.lemmas.Bool.{ne_eqb, lt-ltb, le-ltb, cond_both, eqb-true, or_cases}
 use Rattle.std.proofs.lemmas.Str.{encode_ascii}
+use Rattle.rt_json.proofs.Scalars.{past_same}
 use Rattle.rt_value.specs.Places.{Answer, next, stuck, reads, reads_on}
 use Rattle.rt_json.specs.Text as t
 use Rattle.rt_json.specs.Text.{IsRest, IsText, IsPlain, IsUnit, is_digit}
@@ -140,12 +141,6 @@ goes_continues d.Fraction b = cond_both (is_digit b) _ _ (IfGoes b) (digit_conti
 goes_continues d.Mark b = cond_both (is_digit b) _ _ (IfGoes b) (digit_continues b) (λ _. cond_both ((b == 43) || (b == 45)) _ _ (IfGoes b) (sign_continues b) (λ _. tt))
 goes_continues d.Sign b = cond_both (is_digit b) _ _ (IfGoes b) (digit_continues b) (λ _. tt)
 goes_continues d.Exponent b = cond_both (is_digit b) _ _ (IfGoes b) (digit_continues b) (λ _. tt)
-
--- the byte behind a number is answered as behind a value
-past_same : (levels : ℕ) (stack : List Frame) (v : Json) (b : ℕ) → m.byte_step levels (m.completed stack v) b ≡ m.past_value stack v (class_of b)
-past_same levels [] v b = refl
-past_same levels (frame.Item items ∷ outer) v b = refl
-past_same levels (frame.Member members name ∷ outer) v b = refl
 
 nothing : (out : Json) → None ≡ Some out → ⊥
 nothing out e = cc

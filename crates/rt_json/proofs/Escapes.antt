@@ -1,7 +1,7 @@
 -- What is written of a text is read again as the text.
 use Rattle.std.proofs.Common.{◌≡◌, ◌≢◌, ℕ, zero, suc, ◌+◌, ◌-◌, ◌*◌, ◌/◌, ◌%◌, ◌<◌, ◌≤◌, ◌⊎◌, inl, inr, Bool, true, false, List, [], ◌∷◌, ◌++◌, Some, refl, ap, subst, sym, ◌∙◌, arith, append_assoc, append-nil, flat_map}
 use Rattle.std.specs.Prelude.{◌==◌, encode_utf8, IsUtf8}
-use Rattle.std.proofs.lemmas.Bool.{ne_eqb, eqb-true, eqb-false, lt-ltb, le-ltb, le-leb, lt-leb, leb-true}
+use Rattle.std.proofs.lemmas.Bool.{ne_eqb, eqb-true, eqb-false, lt-ltb, le-ltb, le-leb, lt-leb, leb-true, and_parts}
 use Rattle.std.proofs.lemmas.Str.{encode_ascii}
 use lib.Utf8.{scalar, scalars, encodes, low_scalar}
 use Rattle.rt_json.specs.Text as t
@@ -11,7 +11,7 @@ use Rattle.rt_json.specs.declared.bytes.Tail.{Tail}
 use Rattle.rt_json.specs.declared.bytes.Tail.TheVariants as tail
 use Rattle.rt_json.specs.Machine.{in_tail}
 use Rattle.rt_json.proofs.Utf8.{Fills, multibyte}
-use Rattle.rt_json.proofs.ByteTests.{both, order}
+use Rattle.rt_json.proofs.ByteTests.{order}
 
 pub flat-append : (xs ys : List ℕ) → flat_map written_byte (xs ++ ys) ≡ flat_map written_byte xs ++ flat_map written_byte ys
 flat-append [] ys = refl
@@ -26,11 +26,11 @@ plain_written b l no34 no92 =
 
 -- the bytes of a character of several stand for themselves
 tail_high : (kind : Tail) (b : ℕ) → in_tail kind b ≡ true → 128 ≤ b
-tail_high tail.Any b h = let k = both _ _ h in leb-true 128 b k.0
-tail_high tail.FromA0 b h = let k = both _ _ h in let l = leb-true 160 b k.0 in omega arith
-tail_high tail.UpTo9F b h = let k = both _ _ h in leb-true 128 b k.0
-tail_high tail.From90 b h = let k = both _ _ h in let l = leb-true 144 b k.0 in omega arith
-tail_high tail.UpTo8F b h = let k = both _ _ h in leb-true 128 b k.0
+tail_high tail.Any b h = let k = and_parts _ _ h in leb-true 128 b k.0
+tail_high tail.FromA0 b h = let k = and_parts _ _ h in let l = leb-true 160 b k.0 in omega arith
+tail_high tail.UpTo9F b h = let k = and_parts _ _ h in leb-true 128 b k.0
+tail_high tail.From90 b h = let k = and_parts _ _ h in let l = leb-true 144 b k.0 in omega arith
+tail_high tail.UpTo8F b h = let k = and_parts _ _ h in leb-true 128 b k.0
 
 high_written : (b : ℕ) → 128 ≤ b → written_byte b ≡ b ∷ []
 high_written b l = plain_written b (omega arith) (λ e. omega (arith, e)) (λ e. omega (arith, e))
@@ -125,7 +125,7 @@ ascii_again b h = by (order b 32) (test b 34) (test b 92) (test b 8) (test b 9) 
 chars_again : (cs before ys : List ℕ) → scalars cs ≡ true → IsRest before (before ++ encodes cs) (flat_map written_byte (encodes cs) ++ 34 ∷ ys) ys
 chars_again [] before ys s = subst (λ (all : List ℕ). IsRest before all (34 ∷ ys) ys) (sym (append-nil before)) t.quote
 chars_again (ch ∷ cs) before ys s =
-    let sc = both (scalar ch) (scalars cs) s in
+    let sc = and_parts (scalar ch) (scalars cs) s in
     let more = chars_again cs (before ++ encode_utf8 ch) ys sc.1 in
     let whole : (before ++ encode_utf8 ch) ++ encodes cs ≡ before ++ (encode_utf8 ch ++ encodes cs) = append_assoc before (encode_utf8 ch) (encodes cs) in
     let rest = subst (λ (all : List ℕ). IsRest (before ++ encode_utf8 ch) all (flat_map written_byte (encodes cs) ++ 34 ∷ ys) ys) whole more in

@@ -331,7 +331,7 @@ fourth_found K text half v b zs out None e h = absurd h
 fourth_found K text half v b zs out (Some x) e h = (b, x, zs, refl, e, unit_found K text half (v * 16 + x) zs out h)
 
 filled_found : (K : Behind (List ℕ)) (text : List ℕ) (b : ℕ) (kind : Tail) (count : ℕ) (zs : List ℕ) (out : Json) → m.in_tail kind b ≡ true
-    → InText K (text ++ b ∷ []) (m.filled count) zs out → InText K text (m.filling kind count) (b ∷ zs) out
+    → InText K (text ++ b ∷ []) (m.awaiting count) zs out → InText K text (m.filling kind count) (b ∷ zs) out
 filled_found K text b kind zero zs out e h = (b ∷ [], zs, refl, (e, refl), h)
 filled_found K text b kind (suc count) zs out e (more, ys, is, fills, k) =
     (b ∷ more, ys, ap (λ (xs : List ℕ). b ∷ xs) is, (e, fills), subst (λ (xs : List ℕ). AtRest K xs ys out) (append_assoc text (b ∷ []) more) k)

@@ -1,11 +1,11 @@
 -- Hexadecimal digits, and the halves of a pair.
 use Rattle.std.proofs.Common.{◌≡◌, ℕ, ◌+◌, ◌*◌, ◌<◌, ◌≤◌, Bool, true, false, Option, Some, None, refl, arith, ◌⊎◌, inl, inr, not}
 use Rattle.std.specs.Prelude.{◌&&◌, nat_le, nat_lt}
-use Rattle.std.proofs.lemmas.Bool.{cond_both, leb-true, le-leb, lt-leb, ltb-true, lt-ltb, le-ltb, eq-eqb}
+use Rattle.std.proofs.lemmas.Bool.{cond_both, leb-true, le-leb, lt-leb, ltb-true, lt-ltb, le-ltb, eq-eqb, and_parts}
 use lib.Utf8.{scalar, scalar_cases}
 use Rattle.rt_json.specs.Text.{is_digit, hex_value, is_high, is_low}
 use Rattle.rt_json.specs.Machine.{Half, first_unit, second_unit, first_digit, two_digits, is_low_front}
-use Rattle.rt_json.proofs.ByteTests.{both, order}
+use Rattle.rt_json.proofs.ByteTests.{order}
 
 abbrev IsSmall : Option ℕ → Type 0
 IsSmall None = Unit {0}
@@ -13,9 +13,9 @@ IsSmall (Some v) = v < 16
 
 small : (b : ℕ) → IsSmall (hex_value b)
 small b =
-    cond_both (is_digit b) _ _ IsSmall (λ h. let t = both (nat_le 48 b) (nat_le b 57) h in let u : b ≤ 57 = leb-true b 57 t.1 in omega arith)
-    (λ _. cond_both (nat_le 97 b && nat_le b 102) _ _ IsSmall (λ h. let t = both (nat_le 97 b) (nat_le b 102) h in let u : b ≤ 102 = leb-true b 102 t.1 in omega arith)
-    (λ _. cond_both (nat_le 65 b && nat_le b 70) _ _ IsSmall (λ h. let t = both (nat_le 65 b) (nat_le b 70) h in let u : b ≤ 70 = leb-true b 70 t.1 in omega arith) (λ _. tt)))
+    cond_both (is_digit b) _ _ IsSmall (λ h. let t = and_parts (nat_le 48 b) (nat_le b 57) h in let u : b ≤ 57 = leb-true b 57 t.1 in omega arith)
+    (λ _. cond_both (nat_le 97 b && nat_le b 102) _ _ IsSmall (λ h. let t = and_parts (nat_le 97 b) (nat_le b 102) h in let u : b ≤ 102 = leb-true b 102 t.1 in omega arith)
+    (λ _. cond_both (nat_le 65 b && nat_le b 70) _ _ IsSmall (λ h. let t = and_parts (nat_le 65 b) (nat_le b 70) h in let u : b ≤ 70 = leb-true b 70 t.1 in omega arith) (λ _. tt)))
 
 pub hex_small : (b v : ℕ) → hex_value b ≡ Some v → v < 16
 hex_small b v e = let P : Option ℕ → Type 0 = IsSmall in by (hex_value b) (small b) e
@@ -25,10 +25,10 @@ hex_small b v e = let P : Option ℕ → Type 0 = IsSmall in by (hex_value b) (s
     by (Some x) s e = let is : x ≡ v = cc in omega (arith, s)
 
 pub low_range : (u : ℕ) → is_low u ≡ true → (56320 ≤ u) × (u < 57344)
-low_range u h = let t = both (nat_le 56320 u) (nat_lt u 57344) h in (leb-true 56320 u t.0, ltb-true u 57344 t.1)
+low_range u h = let t = and_parts (nat_le 56320 u) (nat_lt u 57344) h in (leb-true 56320 u t.0, ltb-true u 57344 t.1)
 
 pub high_range : (u : ℕ) → is_high u ≡ true → (55296 ≤ u) × (u < 56320)
-high_range u h = let t = both (nat_le 55296 u) (nat_lt u 56320) h in (leb-true 55296 u t.0, ltb-true u 56320 t.1)
+high_range u h = let t = and_parts (nat_le 55296 u) (nat_lt u 56320) h in (leb-true 55296 u t.0, ltb-true u 56320 t.1)
 
 -- a test of a range that fails
 below : (a b u : ℕ) → u < a → (nat_le a u && nat_lt u b) ≡ false
@@ -87,7 +87,7 @@ pub is_high_by : (u : ℕ) → 55296 ≤ u → u < 56320 → is_high u ≡ true
 is_high_by u l h = rw (le-leb 55296 u l, lt-ltb u 56320 h) refl
 
 pub front_range : (v : ℕ) → is_low_front v ≡ true → (220 ≤ v) × (v < 224)
-front_range v h = let t = both (nat_le 220 v) (nat_lt v 224) h in (leb-true 220 v t.0, ltb-true v 224 t.1)
+front_range v h = let t = and_parts (nat_le 220 v) (nat_lt v 224) h in (leb-true 220 v t.0, ltb-true v 224 t.1)
 
 pub no_front : (v : ℕ) → not (is_low_front v) ≡ true → (v < 220) ⊎ (224 ≤ v)
 no_front v h = by (order v 220) (order v 224)

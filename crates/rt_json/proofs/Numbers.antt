@@ -3,13 +3,12 @@ use Rattle.std.proofs.Common.{◌≡◌, ℕ, ◌≤◌, Bool, true, false, List
 use Rattle.std.specs.Prelude.{◌==◌, ◌||◌, nat_le}
 use Rattle.std.specs.List.{list_all}
 use Rattle.std.proofs.lemmas.List.{append-nil}
-use Rattle.std.proofs.lemmas.Bool.{ne_eqb, leb-true, eqb-true, or_cases, cond_both}
+use Rattle.std.proofs.lemmas.Bool.{ne_eqb, leb-true, eqb-true, or_cases, cond_both, and_parts}
 use Rattle.rt_json.specs.Text.{is_digit, IsDigits, IsMinus, IsWhole, IsFraction, IsSign, IsExponent, IsNumber}
 use Rattle.rt_json.specs.Machine.{class_of, digits_after, may_end}
 use Rattle.rt_json.specs.declared.bytes.Class.TheVariants as c
 use Rattle.rt_json.specs.declared.bytes.Digits.{Digits}
 use Rattle.rt_json.specs.declared.bytes.Digits.TheVariants as d
-use Rattle.rt_json.proofs.ByteTests.{both}
 
 abbrev pub ends_on : (Digits → Bool) → Option Digits → Bool
 ends_on more (Some digits) = more digits
@@ -161,7 +160,7 @@ pub record IsRead (text : List ℕ) : Type 0 where
 pub class_of_digit : (b : ℕ) → is_digit b ≡ true → (b == 48) ≡ false → class_of b ≡ c.NumberStart d.Whole
 unfolding class_of
 class_of_digit b h n =
-    let t = both (nat_le 48 b) (nat_le b 57) h in
+    let t = and_parts (nat_le 48 b) (nat_le b 57) h in
     let low : 48 ≤ b = leb-true 48 b t.0 in
     let e32 : (b == 32) ≡ false = ne_eqb b 32 (λ e. absurd (omega arith)) in
     let e9 : (b == 9) ≡ false = ne_eqb b 9 (λ e. absurd (omega arith)) in
@@ -179,7 +178,7 @@ Stays s = (b : ℕ) → is_digit b ≡ true → digits_after s b ≡ Some s
 past_digits : (s : Digits) → Stays s → (ds rest : List ℕ) → list_all is_digit ds ≡ true → number_ends s (ds ++ rest) ≡ number_ends s rest
 past_digits s stays [] rest h = refl
 past_digits s stays (b ∷ bs) rest h =
-    let t = both (is_digit b) (list_all is_digit bs) h in
+    let t = and_parts (is_digit b) (list_all is_digit bs) h in
     ap (ends_on (λ n. number_ends n (bs ++ rest))) (stays b t.0) ∙ past_digits s stays bs rest t.1
 
 whole_stays : Stays d.Whole
@@ -196,11 +195,11 @@ exponent_read ds h = ap (number_ends d.Exponent) (sym (append-nil ds)) ∙ past_
 
 sign_read : (ds : List ℕ) → IsDigits ds → number_ends d.Sign ds ≡ true
 sign_read [] h = absurd h
-sign_read (b ∷ bs) h = let t = both (is_digit b) (list_all is_digit bs) h in rw t.0 (exponent_read bs t.1)
+sign_read (b ∷ bs) h = let t = and_parts (is_digit b) (list_all is_digit bs) h in rw t.0 (exponent_read bs t.1)
 
 mark_read : (ds : List ℕ) → IsDigits ds → number_ends d.Mark ds ≡ true
 mark_read [] h = absurd h
-mark_read (b ∷ bs) h = let t = both (is_digit b) (list_all is_digit bs) h in rw t.0 (exponent_read bs t.1)
+mark_read (b ∷ bs) h = let t = and_parts (is_digit b) (list_all is_digit bs) h in rw t.0 (exponent_read bs t.1)
 
 signed_read : (sign digits : List ℕ) → IsSign sign → IsDigits digits → number_ends d.Mark (sign ++ digits) ≡ true
 signed_read sign digits (inl e) h = rw e (mark_read digits h)
@@ -224,7 +223,7 @@ exponents_read s (b ∷ bs) m h =
 point_read : (digits exponent : List ℕ) → IsDigits digits → IsExponent exponent → number_ends d.Point (digits ++ exponent) ≡ true
 point_read [] exponent h e = absurd h
 point_read (b ∷ bs) exponent h e =
-    let t = both (is_digit b) (list_all is_digit bs) h in
+    let t = and_parts (is_digit b) (list_all is_digit bs) h in
     rw t.0 (past_digits d.Fraction fraction_stays bs exponent t.1 ∙ exponents_read d.Fraction exponent (refl, refl, refl) e)
 
 -- where a fraction may follow

@@ -1,14 +1,13 @@
 -- What stands before the first byte that stops a run, as a list.
 use Rattle.std.proofs.Common.{◌≡◌, ℕ, suc, ◌+◌, ◌-◌, ◌<◌, ◌≤◌, Bool, true, false, cond, List, [], ◌∷◌, ◌++◌, refl, sym, ap, subst, ◌∙◌, length, drop, take, get_or, arith, append_assoc, append-nil, flat_map, length-drop}
 use Rattle.std.specs.Prelude.{◌&&◌, nat_lt, IsUtf8}
-use Rattle.std.proofs.lemmas.Bool.{eqb-false, ltb-true}
+use Rattle.std.proofs.lemmas.Bool.{eqb-false, ltb-true, and_parts}
 use Rattle.std.proofs.lemmas.List.{drop-drop, drop_more, drop_all, drop-append-le, take-append-le}
 use Rattle.std.proofs.lemmas.Str.{encode_ascii, IsUtf8-append, IsUtf8-encode, IsUtf8-nil}
 use Rattle.std.specs.List.{prefix_len, list_all}
 use lib.Utf8.{low_scalar}
 use Rattle.rt_json.specs.Reads.{is_plain, is_ascii_plain, choose, past_plain}
 use Rattle.rt_json.specs.Written.{written_byte, quoted}
-use Rattle.rt_json.proofs.ByteTests.{both}
 use Rattle.rt_json.proofs.Escapes.{flat-append, plain_written}
 use Rattle.rt_json.proofs.Runs.{plain_run, plain_byte}
 use Rattle.rt_json.proofs.Steps.{slice_rest, slice_is}
@@ -62,15 +61,15 @@ ascii_slice bytes from to e =
 pub ascii_plain : (run : List ℕ) → list_all is_ascii_plain run ≡ true → list_all is_plain run ≡ true
 ascii_plain [] h = refl
 ascii_plain (b ∷ bs) h =
-    let t = both (is_ascii_plain b) (list_all is_ascii_plain bs) h in
-    let u = both (is_plain b) (nat_lt b 128) t.0 in
+    let t = and_parts (is_ascii_plain b) (list_all is_ascii_plain bs) h in
+    let u = and_parts (is_plain b) (nat_lt b 128) t.0 in
     rw (u.0, ascii_plain bs t.1) refl
 
 pub ascii_utf8 : (run : List ℕ) → list_all is_ascii_plain run ≡ true → IsUtf8 run
 ascii_utf8 [] h = IsUtf8-nil
 ascii_utf8 (b ∷ bs) h =
-    let t = both (is_ascii_plain b) (list_all is_ascii_plain bs) h in
-    let u = both (is_plain b) (nat_lt b 128) t.0 in
+    let t = and_parts (is_ascii_plain b) (list_all is_ascii_plain bs) h in
+    let u = and_parts (is_plain b) (nat_lt b 128) t.0 in
     let lt : b < 128 = ltb-true b 128 u.1 in
     IsUtf8-append (b ∷ []) bs (subst IsUtf8 (encode_ascii b lt) (IsUtf8-encode b (low_scalar b (omega (arith, lt))))) (ascii_utf8 bs t.1)
 
@@ -78,7 +77,7 @@ ascii_utf8 (b ∷ bs) h =
 run_as_it_is : (run : List ℕ) → list_all is_plain run ≡ true → flat_map written_byte run ≡ run
 run_as_it_is [] h = refl
 run_as_it_is (b ∷ bs) h =
-    let t = both (is_plain b) (list_all is_plain bs) h in
+    let t = and_parts (is_plain b) (list_all is_plain bs) h in
     let p = plain_byte b t.0 in
     ap (λ (xs : List ℕ). xs ++ flat_map written_byte bs) (plain_written b p.low (eqb-false b 34 p.no_quote) (eqb-false b 92 p.no_backslash)) ∙ ap (λ (xs : List ℕ). b ∷ xs) (run_as_it_is bs t.1)
 

@@ -4,7 +4,7 @@ use Rattle.std.specs.Prelude.{◌==◌, ◌&&◌, nat_le, encode_utf8, IsUtf8}
 use Rattle.std.specs.List.{list_all}
 use Rattle.std.proofs.lemmas.List.{drop_more, take_more, drop_all}
 use Rattle.std.proofs.lemmas.List.Folds.{list_all-append}
-use Rattle.std.proofs.lemmas.Bool.{ne_eqb, lt-ltb, le-ltb, leb-true, leb-false, eqb-true, not-true, lt-leb}
+use Rattle.std.proofs.lemmas.Bool.{ne_eqb, lt-ltb, le-ltb, leb-true, leb-false, eqb-true, not-true, lt-leb, and_parts}
 use Rattle.std.proofs.lemmas.Str.{encode_ascii, IsUtf8-append, IsUtf8-encode, IsUtf8-nil}
 use Rattle.std.proofs.Math.Seq.{take-length}
 use lib.Utf8.{scalar, scalars, encodes, low_scalar}
@@ -16,7 +16,7 @@ use Rattle.rt_json.specs.declared.bytes.Tail.{Tail}
 use Rattle.rt_json.specs.declared.bytes.Tail.TheVariants as tail
 use Rattle.rt_json.proofs.Utf8.{Fills, multibyte, character, lead_means}
 use Rattle.rt_json.proofs.Steps.{text_next, text_stuck}
-use Rattle.rt_json.proofs.ByteTests.{both, order}
+use Rattle.rt_json.proofs.ByteTests.{order}
 
 pub record IsRun (xs : List ℕ) : Type 0 where
   pub run : List ℕ
@@ -61,8 +61,8 @@ pub record PlainByte (b : ℕ) : Type 0 where
 
 pub plain_byte : (b : ℕ) → is_plain b ≡ true → PlainByte b
 plain_byte b h =
-    let t = both (nat_le 32 b && not (b == 34)) (not (b == 92)) h in
-    let u = both (nat_le 32 b) (not (b == 34)) t.0 in
+    let t = and_parts (nat_le 32 b && not (b == 34)) (not (b == 92)) h in
+    let u = and_parts (nat_le 32 b) (not (b == 34)) t.0 in
     record { low = leb-true 32 b u.0; no_quote = not-true (b == 34) u.1; no_backslash = not-true (b == 92) t.1 }
 
 -- a byte that isn't plain is ASCII
@@ -119,13 +119,13 @@ char_outcome stack slot t ch xs sc plain = by (order ch 128)
         ∙ ap (λ (ys : List ℕ). at_text stack slot (t ++ ys) m.between xs) (sym mb.bytes)
 
 all_parts : (xs ys : List ℕ) → list_all is_plain (xs ++ ys) ≡ true → (list_all is_plain xs ≡ true) × (list_all is_plain ys ≡ true)
-all_parts xs ys h = both (list_all is_plain xs) (list_all is_plain ys) (sym (list_all-append is_plain xs ys) ∙ h)
+all_parts xs ys h = and_parts (list_all is_plain xs) (list_all is_plain ys) (sym (list_all-append is_plain xs ys) ∙ h)
 
 pub chars_outcome : (stack : List Frame) (slot : Slot) (t : List ℕ) (cs xs : List ℕ) → scalars cs ≡ true → list_all is_plain (encodes cs) ≡ true
     → at_text stack slot t m.between (encodes cs ++ xs) ≡ at_text stack slot (t ++ encodes cs) m.between xs
 chars_outcome stack slot t [] xs s p = ap (λ (ys : List ℕ). at_text stack slot ys m.between xs) (sym (append-nil t))
 chars_outcome stack slot t (ch ∷ cs) xs s p =
-    let sc = both (scalar ch) (scalars cs) s in
+    let sc = and_parts (scalar ch) (scalars cs) s in
     let pl = all_parts (encode_utf8 ch) (encodes cs) p in
     ap (at_text stack slot t m.between) (append_assoc (encode_utf8 ch) (encodes cs) xs)
     ∙ char_outcome stack slot t ch (encodes cs ++ xs) sc.0 (λ lt. first lt pl.0)
@@ -135,7 +135,7 @@ chars_outcome stack slot t (ch ∷ cs) xs s p =
     first : ch < 128 → list_all is_plain (encode_utf8 ch) ≡ true → PlainByte ch
     first lt h =
         let one : list_all is_plain (ch ∷ []) ≡ true = ap (list_all is_plain) (sym (encode_ascii ch lt)) ∙ h in
-        plain_byte ch (both (is_plain ch) true one).0
+        plain_byte ch (and_parts (is_plain ch) true one).0
 
 pub run_outcome : (stack : List Frame) (slot : Slot) (t run xs : List ℕ) → IsUtf8 run → list_all is_plain run ≡ true
     → at_text stack slot t m.between (run ++ xs) ≡ at_text stack slot (t ++ run) m.between xs
@@ -161,7 +161,7 @@ led_breaks : (t : List ℕ) (o : Option (Tail × ℕ)) → char_led o ≡ None �
 led_breaks t None e = refl
 led_breaks t (Some x) e = absurd cc
 
-left_is : (more : ℕ) → m.filled more ≡ inner_of (char_left more)
+left_is : (more : ℕ) → m.awaiting more ≡ inner_of (char_left more)
 left_is zero = refl
 left_is (suc more) = refl
 
@@ -177,7 +177,7 @@ char_goes t None v b p e = by (order b 128)
         let is : char_led (lead b) ≡ Some v = ap (λ (x : Bool). cond x (Some None) (char_led (lead b))) (sym (le-ltb b 128 le)) ∙ e in
         lead_step t b p le ∙ led_goes (t ++ b ∷ []) (lead b) v is
 char_goes t (Some (kind, count)) v b p e =
-    let P : Bool → Type 0 = λ x. cond x (Some (char_left count)) None ≡ Some v → cond x (m.goes (t ++ b ∷ []) (m.filled count)) m.broken ≡ m.goes (t ++ b ∷ []) (inner_of v) in
+    let P : Bool → Type 0 = λ x. cond x (Some (char_left count)) None ≡ Some v → cond x (m.goes (t ++ b ∷ []) (m.awaiting count)) m.broken ≡ m.goes (t ++ b ∷ []) (inner_of v) in
     elim (in_tail kind b) as P [
       | true ↦ λ is. let same : char_left count ≡ v = cc in ap (m.goes (t ++ b ∷ [])) (left_is count) ∙ ap (λ (u : Option (Tail × ℕ)). m.goes (t ++ b ∷ []) (inner_of u)) same
       | false ↦ λ is. absurd cc
@@ -193,7 +193,7 @@ char_breaks t None b p e = by (order b 128)
         let is : char_led (lead b) ≡ None = ap (λ (x : Bool). cond x (Some None) (char_led (lead b))) (sym (le-ltb b 128 le)) ∙ e in
         lead_step t b p le ∙ led_breaks (t ++ b ∷ []) (lead b) is
 char_breaks t (Some (kind, count)) b p e =
-    let P : Bool → Type 0 = λ x. cond x (Some (char_left count)) None ≡ None → cond x (m.goes (t ++ b ∷ []) (m.filled count)) m.broken ≡ m.broken in
+    let P : Bool → Type 0 = λ x. cond x (Some (char_left count)) None ≡ None → cond x (m.goes (t ++ b ∷ []) (m.awaiting count)) m.broken ≡ m.broken in
     elim (in_tail kind b) as P [ true ↦ λ is. absurd cc | false ↦ λ is. refl ] e
 
 -- one more byte of characters
@@ -240,7 +240,7 @@ abbrev Here : List ℕ → ℕ → ℕ → Type 0
 Here run i b = drop i run ≡ b ∷ drop (i + 1) run
 
 here_plain : (run : List ℕ) (i b : ℕ) → Here run i b → list_all is_plain (drop i run) ≡ true → (is_plain b ≡ true) × (list_all is_plain (drop (i + 1) run) ≡ true)
-here_plain run i b e h = both (is_plain b) (list_all is_plain (drop (i + 1) run)) (ap (list_all is_plain) (sym e) ∙ h)
+here_plain run i b e h = and_parts (is_plain b) (list_all is_plain (drop (i + 1) run)) (ap (list_all is_plain) (sym e) ∙ h)
 
 pub at_next : (run : List ℕ) (i b : ℕ) (w v : Option (Tail × ℕ)) → i < length run → b ≡ get_or run i 0 → IsAt run i w → char_step w b ≡ Some v → IsAt run (i + 1) v
 at_next run i b w v lt is a e =

@@ -1,7 +1,7 @@
 -- Numbers and words, from their first byte on.
 use Rattle.std.proofs.Common.{◌≡◌, ◌≢◌, ℕ, ◌+◌, ◌-◌, ◌<◌, ◌≤◌, ◌⊎◌, inl, inr, Bool, true, false, List, [], ◌∷◌, ◌++◌, Option, Some, None, Ok, Err, refl, ap, subst, sym, ◌∙◌, length, drop, take, get_or, arith, append_assoc, append-nil, length-drop}
 use Rattle.std.specs.Prelude.{◌==◌, ◌||◌, IsUtf8}
-use Rattle.std.proofs.lemmas.Bool.{cond_both, eqb-true, ne_eqb, eq-eqb, or_cases, leb-true}
+use Rattle.std.proofs.lemmas.Bool.{cond_both, eqb-true, ne_eqb, eq-eqb, or_cases, leb-true, and_parts}
 use Rattle.std.proofs.lemmas.List.{drop_more, drop_all}
 use Rattle.std.proofs.lemmas.Str.{IsUtf8-append, IsUtf8-encode, IsUtf8-nil, encode_ascii}
 use lib.Utf8.{low_scalar}
@@ -26,7 +26,7 @@ use Rattle.rt_json.specs.declared.stop.Stop.TheVariants as stop
 use Rattle.rt_json.proofs.Classes.{class_means, IsOf}
 use Rattle.rt_json.proofs.Numbers.{StartsNumber}
 use Rattle.rt_json.proofs.Steps.{next_outcome, stuck_outcome, goes, stops, here, slice_is}
-use Rattle.rt_json.proofs.ByteTests.{both, order}
+use Rattle.rt_json.proofs.ByteTests.{order}
 
 -- bytes with which a number goes on are ASCII
 abbrev IfGoes : ℕ → Option Digits → Type 0
@@ -34,7 +34,7 @@ IfGoes b None = Unit {0}
 IfGoes b (Some digits) = b < 128
 
 digit_low : (b : ℕ) → is_digit b ≡ true → b < 128
-digit_low b h = let t = both _ _ h in let k = leb-true b 57 t.1 in omega arith
+digit_low b h = let t = and_parts _ _ h in let k = leb-true b 57 t.1 in omega arith
 
 at_low : (b n : ℕ) → n < 128 → (b == n) ≡ true → b < 128
 at_low b n l e = let is = eqb-true b n e in omega arith
@@ -93,8 +93,8 @@ digits_run s (b ∷ bs) = by (digits_after s b) refl (goes_low s b) (λ k. digit
       ends = λ x ys is. let same : b ≡ x = cc in subst (λ (z : ℕ). digits_after s z ≡ None) same e;
     }
 
--- a number that may end is read
-past_same : (levels : ℕ) (stack : List Frame) (v : Json) (b : ℕ) → m.byte_step levels (m.completed stack v) b ≡ m.past_value stack v (class_of b)
+-- the byte behind a number is answered as behind a value
+pub past_same : (levels : ℕ) (stack : List Frame) (v : Json) (b : ℕ) → m.byte_step levels (m.completed stack v) b ≡ m.past_value stack v (class_of b)
 past_same levels [] v b = refl
 past_same levels (frame.Item items ∷ outer) v b = refl
 past_same levels (frame.Member members name ∷ outer) v b = refl
@@ -104,6 +104,7 @@ no_deep [] v b = refl
 no_deep (frame.Item items ∷ outer) v b = refl
 no_deep (frame.Member members name ∷ outer) v b = refl
 
+-- a number that may end is read
 number_done : (stack : List Frame) (s : Digits) (t rest : List ℕ) → may_end s ≡ true → ((b : ℕ) (bs : List ℕ) → rest ≡ b ∷ bs → digits_after s b ≡ None)
     → outcome (m.in_number stack s t) rest ≡ outcome (m.completed stack (j.Num t)) rest
 number_done [] s t [] e n = rw e refl

@@ -272,7 +272,7 @@ between_sound text b =
     cond_both (b == 34) _ _ IsTextNext (λ _. tt) (λ _. cond_both (b == 92) _ _ IsTextNext (λ _. tt) (λ _. cond_both (nat_lt b 32) _ _ IsTextNext (λ _. tt)
     (λ _. cond_both (nat_lt b 128) _ _ IsTextNext (λ _. tt) (λ _. led_sound (text ++ b ∷ []) (m.lead b)))))
 
-filled_sound : (count : ℕ) → SoundInner (m.filled count)
+filled_sound : (count : ℕ) → SoundInner (m.awaiting count)
 filled_sound zero = tt
 filled_sound (suc count) = tt
 

@@ -1,12 +1,12 @@
 -- A character of several bytes is a first byte and those that may follow it (the table of RFC 3629, section 4).
 use Rattle.std.proofs.Common.{◌≡◌, ◌≢◌, ℕ, zero, suc, ◌+◌, ◌-◌, ◌*◌, ◌/◌, ◌<◌, ◌≤◌, true, List, [], ◌∷◌, Option, Some, None, refl, ap, sym, ◌∙◌, subst, arith, ◌⊎◌, inl, inr}
 use Rattle.std.specs.Prelude.{◌==◌, ◌&&◌, nat_le, nat_lt, encode_utf8}
-use Rattle.std.proofs.lemmas.Bool.{cond_both, eqb-true, eqb-false, ltb-true, ltb-false, leb-true, lt-ltb, le-ltb, le-leb, ne_eqb}
+use Rattle.std.proofs.lemmas.Bool.{cond_both, eqb-true, eqb-false, ltb-true, ltb-false, leb-true, lt-ltb, le-ltb, le-leb, ne_eqb, and_parts}
 use lib.Utf8.{scalar, scalar_cases, low_scalar, next, encode}
 use Rattle.rt_json.specs.Machine.{in_tail, lead}
 use Rattle.rt_json.specs.declared.bytes.Tail.{Tail}
 use Rattle.rt_json.specs.declared.bytes.Tail.TheVariants as tail
-use Rattle.rt_json.proofs.ByteTests.{both, order}
+use Rattle.rt_json.proofs.ByteTests.{order}
 
 two : (c : ℕ) → 128 ≤ c → c < 2048 → encode c ≡ (192 + c / 64) ∷ next c ∷ []
 unfolding encode
@@ -65,7 +65,7 @@ within : (low high b : ℕ) → low ≤ b → b < high → (nat_le low b && nat_
 within low high b l h = rw (le-leb low b l, lt-ltb b high h) refl
 
 range : (low high b : ℕ) → (nat_le low b && nat_lt b high) ≡ true → (low ≤ b) × (b < high)
-range low high b h = let t = both (nat_le low b) (nat_lt b high) h in (leb-true low b t.0, ltb-true b high t.1)
+range low high b h = let t = and_parts (nat_le low b) (nat_lt b high) h in (leb-true low b t.0, ltb-true b high t.1)
 
 -- what a lead of each kind gives
 lead_two : (b : ℕ) → 194 ≤ b → b < 224 → lead b ≡ Some (tail.Any, 0)

@@ -1,11 +1,11 @@
 -- What is written is UTF-8.
 use Rattle.std.proofs.Common.{◌≡◌, ℕ, zero, suc, ◌/◌, ◌%◌, ◌+◌, ◌<◌, ◌≤◌, ◌⊎◌, inl, inr, Bool, true, false, List, [], ◌∷◌, ◌++◌, ap, subst, sym, ◌∙◌, arith, append_assoc, append-nil, flat_map, cond}
 use Rattle.std.specs.Prelude.{◌==◌, ◌||◌, nat_lt, encode_utf8, IsUtf8, codes, Result, Ok, Err, OnOk, is_ok}
-use Rattle.std.proofs.lemmas.Bool.{lt-ltb, le-ltb}
+use Rattle.std.proofs.lemmas.Bool.{lt-ltb, le-ltb, and_parts}
 use Rattle.std.proofs.lemmas.Str.{encode_ascii, IsUtf8-append, IsUtf8-encode, IsUtf8-nil}
 use lib.Utf8.{scalar, scalars, encodes, low_scalar}
 use Rattle.rt_json.specs.Written.{written_byte, quoted, hex_digit, comma_before}
-use Rattle.rt_json.proofs.ByteTests.{both, order}
+use Rattle.rt_json.proofs.ByteTests.{order}
 use Rattle.rt_json.proofs.Escapes.{flat-append, char_written}
 
 pub one_byte : (b : ℕ) → b < 128 → IsUtf8 (b ∷ [])
@@ -52,7 +52,7 @@ char_is ch sc = by (order ch 128)
 chars_are : (cs : List ℕ) → scalars cs ≡ true → IsUtf8 (flat_map written_byte (encodes cs))
 chars_are [] s = IsUtf8-nil
 chars_are (ch ∷ cs) s =
-    let sc = both (scalar ch) (scalars cs) s in
+    let sc = and_parts (scalar ch) (scalars cs) s in
     subst IsUtf8 (sym (flat-append (encode_utf8 ch) (encodes cs)))
     (IsUtf8-append (flat_map written_byte (encode_utf8 ch)) (flat_map written_byte (encodes cs)) (char_is ch sc.0) (chars_are cs sc.1))
 

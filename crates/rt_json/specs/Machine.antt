@@ -112,9 +112,9 @@ text_between text b =
     if b == 34 then closed else (if b == 92 then goes text escape else (if nat_lt b 32 then broken else
     (if nat_lt b 128 then goes (text ++ b ∷ []) between else led (text ++ b ∷ []) (lead b))))
 
-abbrev pub filled : ℕ → Inner
-filled zero = between
-filled (suc more) = filling tail.Any more
+abbrev pub awaiting : ℕ → Inner
+awaiting zero = between
+awaiting (suc more) = filling tail.Any more
 
 abbrev pub escaped : List ℕ → ℕ → Option ℕ → TextAnswer
 escaped text b (Some c) = goes (text ++ c ∷ []) between
@@ -155,7 +155,7 @@ fourth_read text half v (Some x) = unit_ended text half (v * 16 + x)
 -- a byte of a text
 abbrev pub text_step : List ℕ → Inner → ℕ → TextAnswer
 text_step text between b = text_between text b
-text_step text (filling t more) b = if in_tail t b then goes (text ++ b ∷ []) (filled more) else broken
+text_step text (filling t more) b = if in_tail t b then goes (text ++ b ∷ []) (awaiting more) else broken
 text_step text escape b = escaped text b (short_escape b)
 text_step text (unit0 half) b = first_read text half (hex_value b)
 text_step text (unit1 half v) b = second_read text half v (hex_value b)

@@ -1,7 +1,7 @@
 -- A channel that a readable join makes can be spoken of, and each reason against a join or a renewal is UTF-8.
 use Rattle.std.proofs.Common.{◌≡◌, ℕ, suc, ◌+◌, ◌*◌, ◌<◌, ◌≤◌, Bool, true, false, not, List, [], ◌∷◌, ◌++◌, map, length}
 use Rattle.std.proofs.Common.{Option, Some, None, Ok, Err, refl, sym, ap, subst, arith}
-use Rattle.std.specs.Prelude.{⊤, ◌^◌, IsUtf8, codes, nat_lt, slice_get, option_map, unwrap_or, Result}
+use Rattle.std.specs.Prelude.{⊤, ◌^◌, IsUtf8, codes, nat_lt, slice_get, option_map, unwrap_or, Result, MatchResult}
 use Rattle.std.specs.Fmt.{decimal}
 use Rattle.std.specs.Str.{bytes_eq}
 use Rattle.std.proofs.lemmas.Bool.Decides.{nat_tests}
@@ -57,8 +57,7 @@ use Rattle.rt_laws.proofs.Outgoing.{Small, BindingFits, SubscribedFits, Standing
 
 -- a value that has something, or a reason in UTF-8
 abbrev pub Told : {A : Type 0} → (A → Type 0) → Checked A → Type 0
-Told B (Ok x) = B x
-Told B (Err reason) = IsUtf8 reason
+Told B r = MatchResult r B IsUtf8
 
 told_bind : {A C : Type 0} (B : A → Type 0) (D : C → Type 0) (r : Checked A) (f : A → Checked C) → Told B r
     → ((x : A) → B x → Told D (f x))

@@ -6,7 +6,7 @@ use Rattle.std.specs.List.{filter, filter_map, flat_map, enumerate_from}
 use Rattle.std.proofs.lemmas.List.Elements.{filter_map-append}
 use Rattle.rt_value.specs.declared.row.Row.{Row}
 use Rattle.rt_value.specs.Tables.{rows_of_table}
-use Rattle.rt_value.proofs.Among.{Among, to_contains, from_contains, among_flat, among_map, among_filter, filter_among}
+use Rattle.rt_value.proofs.Among.{Among, to_contains, from_contains, among_flat, among_map, among_filter, filter_among, flat_among}
 use Rattle.rt_value.proofs.Among.{map_among}
 use Rattle.rt_filter.specs.declared.subscription.Subscription.{Subscription}
 use Rattle.rt_catalog.specs.declared.catalog.Catalog.{Catalog}
@@ -29,7 +29,6 @@ use Rattle.rt_entry.specs.Audit.{Judged, judged_by, judged_change, judged_poll, 
 use Rattle.rt_entry.specs.Members.{members_of_journal}
 use Rattle.rt_entry.specs.Ids.{subscribed, judged_on}
 use Rattle.rt_laws.specs.Audited.{change_answers, IsTold, IsDecided, AuditDecides, PollsAreChanges}
-use Rattle.rt_laws.proofs.Lists.{flat_among}
 use Rattle.rt_entry.proofs.Shapes.{eqb_same}
 use Rattle.rt_entry.proofs.Journals.{story_shaped}
 use Rattle.rt_laws.proofs.Due.{three_parts, gets_own}

@@ -18,8 +18,9 @@ use Rattle.rt_json.specs.declared.tree.Json.TheVariants.{outs-Object, rolls-Null
 use Rattle.rt_json.specs.declared.tree.Json.TheVariants.{rolls-List, rolls-Object}
 use Rattle.rt_json.specs.declared.tree.Json.TheVariants as j
 use Rattle.rt_json.specs.declared.tree.named.Member.{Member}
-use Rattle.rt_json.specs.Lookup.{last_named, or_else, members_of, member_of}
+use Rattle.rt_json.specs.Lookup.{last_named, members_of, member_of}
 use Rattle.std.specs.Str.{bytes_eq}
+use Rattle.std.specs.Option.{option_or}
 use Rattle.rt_value.proofs.Plain.{Maybe, all_append, all_weaker}
 use Rattle.rt_json.proofs.Lookups.{object_members}
 use Rattle.rt_json.proofs.Hex.{low_range, high_range}
@@ -193,7 +194,7 @@ last_fits levels name [] h = tt
 last_fits levels name (m ∷ ms) h = by (last_named name ms) (bytes_eq m.name name) (last_fits levels name ms h.1)
   where
     by : (o : Option Json) (b : Bool) → Maybe (FitsWithin levels) o
-        → Maybe (FitsWithin levels) (or_else o (cond b (Some m.value) None))
+        → Maybe (FitsWithin levels) (option_or o (cond b (Some m.value) None))
     by (Some x) b k = k
     by None true k = h.0.1
     by None false k = tt

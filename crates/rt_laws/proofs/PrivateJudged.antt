@@ -1,7 +1,7 @@
 -- A join that is accepted and a renewal were judged.
 use Rattle.std.proofs.Common.{◌≡◌, ℕ, Bool, true, List, map, Option, Some, None, Ok, Err, refl, ap}
 use Rattle.std.proofs.Common.{subst}
-use Rattle.std.specs.Prelude.{⊤, Result, codes, nat_lt, is_none}
+use Rattle.std.specs.Prelude.{⊤, Result, codes, nat_lt, is_none, IfOk}
 use Rattle.std.proofs.lemmas.Bool.{and_parts}
 use Rattle.rt_value.specs.declared.claims.Claims.{Claims}
 use Rattle.rt_value.specs.declared.row.Row.{Row}
@@ -26,8 +26,7 @@ use Rattle.rt_laws.specs.Private.{IsJudged, IsAdmitted}
 
 -- a value, where there is one, has something
 abbrev pub IsGood : {A : Type 0} → (A → Type 0) → Checked A → Type 0
-IsGood B (Ok x) = B x
-IsGood B (Err why) = ⊤
+IsGood B r = IfOk r B
 
 good_bind : {A C : Type 0} (D : C → Type 0) (r : Checked A) (f : A → Checked C) → ((x : A) → r ≡ Ok x → IsGood D (f x))
     → IsGood D (r >> f)

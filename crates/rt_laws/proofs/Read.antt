@@ -5,6 +5,7 @@ use Rattle.std.specs.Prelude.{codes, unwrap_or, All, IsUtf8, IsPermutation}
 use Rattle.std.specs.List.{filter, filter_map, cons_option, AllByRecursion}
 use Rattle.std.specs.Str.{bytes_eq}
 use Rattle.std.proofs.lemmas.List.Elements.{filter-append, filter_map-append}
+use Rattle.rt_phx.proofs.Spelling.{names_fit, ref_same}
 use Rattle.rt_value.specs.Choice.{◌>>=◌}
 use Rattle.rt_json.specs.declared.tree.Json.{Json, Null, Num, Text}
 use Rattle.rt_json.specs.declared.tree.Json.TheVariants.{outs-Null, outs-Text, outs-Num, outs-List, outs-Object}
@@ -48,26 +49,11 @@ abbrev read_as : Version → Message → Message
 read_as V1 m = record m { join_ref = Null }
 read_as V2 m = m
 
-ref_same : (r : Json) → IsRef r → ref_of r ≡ Some r
-ref_same Null h = refl
-ref_same (Text t) h = refl
-ref_same (Num n) h = refl
-ref_same _ h = absurd h
-
 ref_fits : (levels : ℕ) (r : Json) → IsRef r → FitsWithin levels r
 ref_fits levels Null h = null_fits levels
 ref_fits levels (Text t) h = text_fits levels t h
 ref_fits levels (Num n) h = number_fits levels n h
 ref_fits levels _ h = absurd h
-
-names_fit : IsUtf8 (codes "topic") × IsUtf8 (codes "event") × IsUtf8 (codes "payload") × IsUtf8 (codes "ref")
-unfolding lib.Utf8.encode
-names_fit = (
-  (codes "topic", (refl, refl)),
-  (codes "event", (refl, refl)),
-  (codes "payload", (refl, refl)),
-  (codes "ref", (refl, refl)),
-)
 
 abbrev five : Message → List Json
 five m = m.join_ref ∷ m.reference ∷ Text m.topic ∷ Text m.event ∷ m.payload ∷ []

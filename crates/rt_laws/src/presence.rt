@@ -38,7 +38,8 @@ pub fn clients_follow()
 /// After any journal shorter than 2^64, each member with presence enabled holds, by its presence
 /// state and the later differences that it was told, what is present on its topic, up to order.
 pub fn clients_agree()
-    ensures { (c : CatalogData) (s : SettingsData) (js : List InputData) → ClientsAgree c s js }
+    ensures { (c : CatalogData) (s : SettingsData) (journal : List InputData)
+        → ClientsAgree c s journal }
 {}
 
 /// So it is at each place of the journal that any steps make, where the limit on inputs is below

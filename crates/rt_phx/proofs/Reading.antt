@@ -1,12 +1,12 @@
 -- The message of a tree, from its parts.
 use Rattle.std.proofs.Common.{◌≡◌, ℕ, List, [], ◌∷◌, ◌++◌, Option, Some, None, refl, ap, sym, ◌∙◌}
 use Rattle.std.specs.Prelude.{codes, unwrap_or, option_map}
-use Rattle.std.specs.Option.{option_zip}
+use Rattle.std.specs.Option.{option_zip, option_or}
 use Rattle.rt_value.specs.Choice.{◌>>=◌}
 use Rattle.rt_json.specs.declared.tree.Json.{Json, Null}
 use Rattle.rt_json.specs.declared.tree.Json.TheVariants as j
 use Rattle.rt_json.specs.declared.tree.named.Member.{Member}
-use Rattle.rt_json.specs.Lookup.{last_named, or_else}
+use Rattle.rt_json.specs.Lookup.{last_named}
 use Rattle.rt_json.specs.Trees.{text_of, list_of}
 use Rattle.rt_json.proofs.Lookups.{object_members, list_items}
 use Rattle.rt_phx.specs.declared.message.Message.{Message}
@@ -15,22 +15,22 @@ use Rattle.rt_phx.specs.Frame.{message, message_of_object, message_of_five, ref_
 use Rattle.rt_phx.specs.Parts.{value_under, parts_among, parts_with, parts_in_five, message_of_parts}
 
 -- a member more at the end of an object
-or_else_assoc : (a b c : Option Json) → or_else (or_else a b) c ≡ or_else a (or_else b c)
-or_else_assoc None b c = refl
-or_else_assoc (Some x) b c = refl
+option_or_assoc : (a b c : Option Json) → option_or (option_or a b) c ≡ option_or a (option_or b c)
+option_or_assoc None b c = refl
+option_or_assoc (Some x) b c = refl
 
-pub last_more : (name : List ℕ) (ms : List Member) (m : Member) → last_named name (ms ++ m ∷ []) ≡ or_else (value_under name m) (last_named name ms)
+pub last_more : (name : List ℕ) (ms : List Member) (m : Member) → last_named name (ms ++ m ∷ []) ≡ option_or (value_under name m) (last_named name ms)
 last_more name [] m = at_end (value_under name m)
   where
-    at_end : (o : Option Json) → or_else None o ≡ or_else o None
+    at_end : (o : Option Json) → option_or None o ≡ option_or o None
     at_end None = refl
     at_end (Some x) = refl
 last_more name (x ∷ xs) m =
-    ap (λ (o : Option Json). or_else o (value_under name x)) (last_more name xs m) ∙ or_else_assoc (value_under name m) (last_named name xs) (value_under name x)
+    ap (λ (o : Option Json). option_or o (value_under name x)) (last_more name xs m) ∙ option_or_assoc (value_under name m) (last_named name xs) (value_under name x)
 
 pub among_more : (ms : List Member) (m : Member) → parts_among (ms ++ m ∷ []) ≡ parts_with (parts_among ms) m
 among_more ms m =
-    let of : (name : List ℕ) → last_named name (ms ++ m ∷ []) ≡ or_else (value_under name m) (last_named name ms) = λ name. last_more name ms m in
+    let of : (name : List ℕ) → last_named name (ms ++ m ∷ []) ≡ option_or (value_under name m) (last_named name ms) = λ name. last_more name ms m in
     cong5 _ _ _ _ _ _ _ _ _ _ (of (codes "topic")) (of (codes "event")) (of (codes "payload")) (of (codes "ref")) (of (codes "join_ref"))
   where
     cong5 : (t t2 e e2 p p2 r r2 j j2 : Option Json) → t ≡ t2 → e ≡ e2 → p ≡ p2 → r ≡ r2 → j ≡ j2

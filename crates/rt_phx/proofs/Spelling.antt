@@ -70,7 +70,7 @@ utf8_behind (Ok all) bytes before u h = h u
 utf8_behind (Err e) bytes before u h = tt
 
 -- a ref is read as itself, and fits
-ref_same : (r : Json) → IsRef r → ref_of r ≡ Some r
+pub ref_same : (r : Json) → IsRef r → ref_of r ≡ Some r
 ref_same Null h = refl
 ref_same (Text t) h = refl
 ref_same (Num n) h = refl
@@ -94,7 +94,7 @@ list_fits m f =
     let items : List Json = m.join_ref ∷ m.reference ∷ Text m.topic ∷ Text m.event ∷ m.payload ∷ [] in
     subst (FitsOver (FitsWithin 63)) (sym (outs-List items)) (ref_fits m.join_ref f.join_ref, (ref_fits m.reference f.reference, (text_fits m.topic f.topic, (text_fits m.event f.event, (f.payload, tt)))))
 
-names_fit : IsUtf8 (codes "topic") × IsUtf8 (codes "event") × IsUtf8 (codes "payload") × IsUtf8 (codes "ref")
+pub names_fit : IsUtf8 (codes "topic") × IsUtf8 (codes "event") × IsUtf8 (codes "payload") × IsUtf8 (codes "ref")
 unfolding lib.Utf8.encode
 names_fit = ((codes "topic", (refl, refl)), (codes "event", (refl, refl)), (codes "payload", (refl, refl)), (codes "ref", (refl, refl)))
 

@@ -1,10 +1,11 @@
 -- The parts of a message as they stand in a frame, before it is known of what form they are.
 use Rattle.std.specs.Prelude.{ℕ, List, [], ◌∷◌, codes, Option, Some, None, unwrap_or, if◌then◌else◌}
 use Rattle.std.specs.Str.{bytes_eq}
+use Rattle.std.specs.Option.{option_or}
 use Rattle.rt_value.specs.Choice.{◌>>=◌}
 use Rattle.rt_json.specs.declared.tree.Json.{Json, Null}
 use Rattle.rt_json.specs.declared.tree.named.Member.{Member}
-use Rattle.rt_json.specs.Lookup.{last_named, or_else}
+use Rattle.rt_json.specs.Lookup.{last_named}
 use Rattle.rt_json.specs.Trees.{text_of}
 use Rattle.rt_phx.specs.declared.message.Message.{Message}
 use Rattle.rt_phx.specs.declared.parts.Parts.{Parts}
@@ -43,9 +44,9 @@ message_of_parts parts =
 abbrev pub parts_with : Parts → Member → Parts
 parts_with parts m =
     record {
-      topic = or_else (value_under (codes "topic") m) parts.topic;
-      event = or_else (value_under (codes "event") m) parts.event;
-      payload = or_else (value_under (codes "payload") m) parts.payload;
-      reference = or_else (value_under (codes "ref") m) parts.reference;
-      join_ref = or_else (value_under (codes "join_ref") m) parts.join_ref;
+      topic = option_or (value_under (codes "topic") m) parts.topic;
+      event = option_or (value_under (codes "event") m) parts.event;
+      payload = option_or (value_under (codes "payload") m) parts.payload;
+      reference = option_or (value_under (codes "ref") m) parts.reference;
+      join_ref = option_or (value_under (codes "join_ref") m) parts.join_ref;
     }

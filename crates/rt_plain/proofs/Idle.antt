@@ -5,7 +5,7 @@ use Rattle.std.specs.Prelude.{⊤, ◌==◌}
 use Rattle.std.specs.List.{flat_map, list_any}
 use Rattle.std.proofs.lemmas.Nat.{mod_below}
 use Rattle.std.proofs.lemmas.Bool.{eqb-true, not-true, or_parts}
-use Rattle.rt_value.proofs.Among.{Among, among_left, among_right, map_among}
+use Rattle.rt_value.proofs.Among.{Among, among_left, among_right, map_among, flat_among}
 use Rattle.rt_value.proofs.Plain.{AllOf, all_append, all_map, all_flat, all_among}
 use Rattle.rt_catalog.specs.declared.catalog.Catalog.{Catalog}
 use Rattle.rt_entry.specs.declared.input.Settings.{Settings}
@@ -19,7 +19,6 @@ use Rattle.rt_entry.specs.Machine.{Lane, World, Placed, Outcome, done, empty, fu
 use Rattle.rt_entry.specs.Machine.{with_cut, outbox, pending, send, work, is_full_for, push, pop, step_of, run, shown}
 use Rattle.rt_entry.specs.Machine.{lane_of, IsAtRest}
 use Rattle.rt_script.specs.Running.{is_done, every_lane, round, outcomes, does_nothing}
-use Rattle.rt_laws.proofs.Lists.{flat_among}
 use Rattle.rt_laws.proofs.Given.{shown_uncut}
 use Rattle.rt_laws.proofs.Good.{IsGood, good_serves}
 use Rattle.rt_plain.proofs.Calm.{CalmWorld, by_test, pair_of, has_room}

@@ -3,7 +3,8 @@ use Rattle.std.proofs.Common.{◌≡◌, ℕ, zero, suc, ◌+◌, ◌*◌, ◌<�
 use Rattle.std.specs.Prelude.{nat_le}
 use Rattle.std.specs.List.{list_all}
 use Rattle.std.proofs.Math.Nat.{mul-le-mul_right}
-use Rattle.rt_policy.proofs.Ranks.{all_at, both_true, within}
+use Rattle.std.proofs.lemmas.Bool.{and_parts}
+use Rattle.rt_policy.proofs.Ranks.{all_at, within}
 use Rattle.rt_policy.specs.declared.judge.Judge.{Judge}
 use Rattle.rt_policy.specs.declared.judge.Judge.TheOpen.{Judge-F}
 use Rattle.rt_policy.specs.declared.judge.Judge.TheFolds.{fold-Judge}
@@ -85,8 +86,8 @@ deepest_table (x ∷ xs) (suc t) entry e = let more = deepest_table xs t entry e
 
 all_index : {X : Type 0} (good : X → Bool) (xs : List X) (i : ℕ) (d : X) → list_all good xs ≡ true → i < length xs → good (get_or xs i d) ≡ true
 all_index good [] i d g h = absurd (omega arith)
-all_index good (y ∷ ys) zero d g h = (both_true (good y) (list_all good ys) g).0
-all_index good (y ∷ ys) (suc i) d g h = all_index good ys i d (both_true (good y) (list_all good ys) g).1 (omega arith)
+all_index good (y ∷ ys) zero d g h = (and_parts (good y) (list_all good ys) g).0
+all_index good (y ∷ ys) (suc i) d g h = all_index good ys i d (and_parts (good y) (list_all good ys) g).1 (omega arith)
 
 -- an expression of a table's policy takes less than the table
 pub policy_below : (tables : List TableRules) (t : ℕ) (entry : TableRules) (i : ℕ) (p : Policy) (j : Judge) → has_no_ring tables ≡ true → slice_get tables t ≡ Some entry →

@@ -2,7 +2,7 @@
 use Rattle.std.proofs.Common.{◌≡◌, ℕ, zero, suc, ◌+◌, ◌<◌, ◌≤◌, Bool, true, false, cond, ◌&&◌, not, ◌||◌, List, [], ◌∷◌, map, Option, Some, None, refl, ap, sym, ◌∙◌, subst, arith, slice_get}
 use Rattle.std.specs.Prelude.{nat_le}
 use Rattle.std.specs.List.{list_any, list_all, position_from}
-use Rattle.std.proofs.lemmas.Bool.{leb-true}
+use Rattle.std.proofs.lemmas.Bool.{leb-true, and_parts}
 use Rattle.rt_value.specs.declared.row.Row.{Row}
 use Rattle.rt_value.specs.declared.value.Value.{Value}
 use Rattle.rt_value.specs.declared.value.Value.TheVariants as value
@@ -23,27 +23,23 @@ any_same : {X : Type 0} (p q : X → Bool) → ((x : X) → p x ≡ q x) → (xs
 any_same p q h [] = refl
 any_same p q h (x ∷ xs) = ap (λ b. b || list_any p xs) (h x) ∙ ap (λ b. q x || b) (any_same p q h xs)
 
-pub both_true : (a b : Bool) → (a && b) ≡ true → (a ≡ true) × (b ≡ true)
-both_true true b h = (refl, h)
-both_true false b h = absurd (cc)
-
 -- tests that agree wherever the elements are good
 any_same_where : {X : Type 0} (good p q : X → Bool) → ((x : X) → good x ≡ true → p x ≡ q x) → (xs : List X) → list_all good xs ≡ true → list_any p xs ≡ list_any q xs
 any_same_where good p q h [] g = refl
 any_same_where good p q h (x ∷ xs) g =
-    let b = both_true (good x) (list_all good xs) g in
+    let b = and_parts (good x) (list_all good xs) g in
     ap (λ b. b || list_any p xs) (h x b.0) ∙ ap (λ b. q x || b) (any_same_where good p q h xs b.1)
 
 position_same_where : {X : Type 0} (good p q : X → Bool) → ((x : X) → good x ≡ true → p x ≡ q x) → (xs : List X) (n : ℕ) → list_all good xs ≡ true → position_from p n xs ≡ position_from q n xs
 position_same_where good p q h [] n g = refl
 position_same_where good p q h (x ∷ xs) n g =
-    let b = both_true (good x) (list_all good xs) g in
+    let b = and_parts (good x) (list_all good xs) g in
     ap (λ b. cond b (Some n) (position_from p (n + 1) xs)) (h x b.0) ∙ ap (λ o. cond (q x) (Some n) o) (position_same_where good p q h xs (n + 1) b.1)
 
 pub all_at : {X : Type 0} (good : X → Bool) (xs : List X) (i : ℕ) (x : X) → list_all good xs ≡ true → slice_get xs i ≡ Some x → good x ≡ true
 all_at good [] i x g e = absurd (cc)
-all_at good (y ∷ ys) zero x g e = let same : y ≡ x = cc in ap good (sym same) ∙ (both_true (good y) (list_all good ys) g).0
-all_at good (y ∷ ys) (suc i) x g e = all_at good ys i x (both_true (good y) (list_all good ys) g).1 e
+all_at good (y ∷ ys) zero x g e = let same : y ≡ x = cc in ap good (sym same) ∙ (and_parts (good y) (list_all good ys) g).0
+all_at good (y ∷ ys) (suc i) x g e = all_at good ys i x (and_parts (good y) (list_all good ys) g).1 e
 
 pub within : (s : Bool) (r n : ℕ) → (not s || nat_le r n) ≡ true → s ≡ true → r ≤ n
 within true r n h e = leb-true r n h

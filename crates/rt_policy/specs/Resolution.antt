@@ -3,6 +3,7 @@
 use Rattle.std.specs.Prelude.{ℕ, ◌==◌, ℤ, pos, neg_ℤ, Bool, true, false, ◌&&◌, ◌||◌, not, if◌then◌else◌, List, [], ◌∷◌, ◌++◌, map, codes, slice_get, Option, Some, None, option_map, unwrap_or, find, Result, Ok, Err}
 use Rattle.std.specs.List.{list_any, list_all, filter_map, enumerate_from}
 use Rattle.std.specs.Str.{bytes_eq}
+use Rattle.std.specs.Option.{option_or}
 use Rattle.rt_value.specs.declared.value.Value.{Value}
 use Rattle.rt_value.specs.declared.value.Value.TheVariants as value
 use Rattle.rt_value.specs.declared.value.Kind.{Kind}
@@ -193,14 +194,10 @@ abbrev pub is_qualified_by : List ℕ → Option Reading → Bool
 is_qualified_by qualifier None = false
 is_qualified_by qualifier (Some r) = bytes_eq qualifier r.qualifier
 
-abbrev pub or_else : {A : Type 0} → Option A → Option A → Option A
-or_else None other = other
-or_else (Some x) other = Some x
-
 -- A column without qualifier inside an EXISTS is the inner table's where that has it, else the policy's table's. A qualifier is the inner
 -- table's alias, or its name where it has no alias, else the name of the policy's table.
 abbrev pub column_found : Scope → Option Reading → Option (List ℕ) → List ℕ → Option Found
-column_found scope reading None name = or_else (inner_column name reading) (own_column name scope)
+column_found scope reading None name = option_or (inner_column name reading) (own_column name scope)
 column_found scope reading (Some qualifier) name =
     if is_qualified_by qualifier reading then inner_column name reading
     else (own_table scope >>= λ t. some_if (bytes_eq qualifier t.name) t >>= λ _. own_column name scope)

@@ -10,6 +10,7 @@ use Rattle.std.specs.Ordering.{is_lt}
 use Rattle.std.specs.Str.{bytes_eq}
 use Rattle.std.proofs.lemmas.Bool.Decides.{Decides-eqb}
 use Rattle.std.proofs.lemmas.Bool.{not-true}
+use Rattle.rt_value.proofs.Tests.{same_tests}
 use Rattle.rt_value.proofs.Among.{Among, among_filter}
 use Rattle.rt_value.proofs.Plain.{all_themselves, all_weaker, filter_alike, filter_map_swap, filter_and, filter_same}
 use Rattle.rt_value.proofs.Plain.{and_swap}
@@ -24,7 +25,7 @@ use Rattle.rt_presence.specs.Trees.{Held, held_of, on_topic, difference_tree, jo
 use Rattle.rt_presence.specs.Calls.{Call, tracks, ends, after_calls, is_by}
 use Rattle.rt_presence.specs.Reading.{reference_of, is_among, after_difference}
 use Rattle.rt_presence.specs.Client.{answered, view_by_calls, IsAfter, AreNumbered, CallClientsAgree}
-use Rattle.rt_presence.proofs.Orders.{of_place, at_place, same_bool}
+use Rattle.rt_presence.proofs.Orders.{of_place, at_place}
 use Rattle.rt_presence.proofs.Places.{none_found}
 use Rattle.rt_presence.proofs.Stands.{put_only, only_stay, flip}
 use Rattle.rt_presence.proofs.ReadAgain.{read_again, reference_is, same_text, difference_read}
@@ -143,7 +144,7 @@ module _ (S : List Tracked) (ok : Good S) (p : Place) where
   gone_is None e x h = sym (none_at of_p S x (none_found of_p S e) h)
   gone_is (Some f) e x h =
       let r = found of_p S f e in
-      same_bool (number f == number x) (of_p x)
+      same_tests (number f == number x) (of_p x)
       (λ k. ap of_p (sym (ok.numbers f x r.0 h ((Decides-eqb (number f) (number x)).0 k))) ∙ r.1)
       (λ k. (Decides-eqb (number f) (number x)).1
       (ap number (ok.places f x r.0 h (at_place (place_of f.0) x (of_place p x k ∙ sym (of_place p f r.1))))))
@@ -230,7 +231,7 @@ module _ (topic : List ℕ) where
 
       new_stays : (f : Tracked) → Among S f → (number f == number t) ≡ false
       new_stays f i = let lt = less f i in
-          same_bool (number f == number t) false (λ k. let g = (Decides-eqb (number f) (number t)).0 k in
+          same_tests (number f == number t) false (λ k. let g = (Decides-eqb (number f) (number t)).0 k in
           absurd (omega arith)) (λ k. absurd (cc))
 
       joined_with : (o : Option Tracked) (gone_h : Held → Bool) → track_of S t.0.topic t.0.channel ≡ o

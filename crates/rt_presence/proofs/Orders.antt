@@ -10,6 +10,8 @@ use Rattle.std.proofs.lemmas.Map.Lookups.{exact_unsigned, exact_bytes}
 use Rattle.std.proofs.lemmas.Bool.Decides.{eqb_tells}
 use Rattle.std.proofs.lemmas.Slice.Eq.{bytes_eq-Decides}
 use Rattle.std.proofs.lemmas.Bool.{and_parts, eqb-true, eq-eqb}
+use Rattle.rt_value.proofs.Ties.{both_equal}
+use Rattle.rt_value.proofs.Tests.{same_tests}
 use Rattle.rt_presence.specs.declared.tracks.TrackKey.{TrackKey}
 use Rattle.rt_presence.specs.declared.tracks.Place.{Place}
 use Rattle.rt_presence.specs.Tracks.{Tracked, track_cmp, place_cmp, track_at, is_of}
@@ -25,11 +27,6 @@ track_total =
     (then_total (on_total (λ (t : TrackKey). t.key) nat_list_cmp_total)
     (then_total (on_total (λ (t : TrackKey). t.reference) nat_cmp_total)
     (on_total (λ (t : TrackKey). t.channel) nat_cmp_total)))
-
-pub both_equal : (o p : Ordering) → ordering_then o p ≡ Equal → (o ≡ Equal) × (p ≡ Equal)
-both_equal Less p h = absurd (cc)
-both_equal Equal p h = (refl, h)
-both_equal Greater p h = absurd (cc)
 
 abbrev place_at : List ℕ → ℕ → Place
 place_at topic channel = record { topic = topic; channel = channel }
@@ -67,14 +64,9 @@ at_place p t e =
     ap (λ b. b && (t.0.channel == p.channel)) ((bytes_eq-Decides t.0.topic p.topic).1 (ap (λ (q : Place). q.topic) e))
     ∙ eq-eqb t.0.channel p.channel (ap (λ (q : Place). q.channel) e)
 
-pub same_bool : (a b : Bool) → (a ≡ true → b ≡ true) → (b ≡ true → a ≡ true) → a ≡ b
-same_bool true b f g = sym (f refl)
-same_bool false true f g = g refl
-same_bool false false f g = refl
-
 pub of_is : (p : Place) (t : Tracked) → is_eq (place_cmp p (place_of t.0)) ≡ is_of p.topic p.channel t
 of_is p t =
-    same_bool (is_eq (place_cmp p (place_of t.0))) (is_of p.topic p.channel t)
+    same_tests (is_eq (place_cmp p (place_of t.0))) (is_of p.topic p.channel t)
     (λ h. at_place p t (sym (place_exact p (place_of t.0) (is_eq_true _ h))))
     (λ h. ap is_eq (ap (place_cmp p) (of_place p t h) ∙ tied_itself place_total p))
 
@@ -82,6 +74,6 @@ of_is p t =
 pub told : (p : Place) (t : TrackKey) (u : Tracked) → place_of t ≡ p → (is_of p.topic p.channel u ≡ true → u.0 ≡ t)
     → is_eq (track_cmp t u.0) ≡ is_of p.topic p.channel u
 told p t u own one =
-    same_bool (is_eq (track_cmp t u.0)) (is_of p.topic p.channel u)
+    same_tests (is_eq (track_cmp t u.0)) (is_of p.topic p.channel u)
     (λ h. at_place p u (ap place_of (sym (track_exact t u.0 (is_eq_true _ h))) ∙ own))
     (λ h. ap is_eq (ap (track_cmp t) (one h) ∙ tied_itself track_total t))

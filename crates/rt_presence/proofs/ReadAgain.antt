@@ -8,6 +8,7 @@ use Rattle.std.specs.Str.{bytes_eq}
 use Rattle.std.proofs.lemmas.Bool.Decides.{eqb_tells}
 use Rattle.std.proofs.lemmas.Fmt.{decimal_injective}
 use Rattle.std.proofs.lemmas.Slice.Eq.{bytes_eq-Decides}
+use Rattle.std.specs.Option.{option_or}
 use Rattle.rt_value.specs.Choice.{◌>>=◌}
 use Rattle.rt_value.proofs.Plain.{filter_alike, all_every}
 use Rattle.rt_value.proofs.Moves.{Moves, then_to, moves_same, moves_filter, moves_left, moves_right, moves_any}
@@ -15,7 +16,7 @@ use Rattle.rt_value.proofs.Keys.{IsIn, ordered_rises, ordered_has, of_key, group
 use Rattle.rt_json.specs.declared.tree.Json.{Json, Text}
 use Rattle.rt_json.specs.declared.tree.Json.TheVariants as j
 use Rattle.rt_json.specs.declared.tree.named.Member.{Member}
-use Rattle.rt_json.specs.Lookup.{or_else, last_named, members_of}
+use Rattle.rt_json.specs.Lookup.{last_named, members_of}
 use Rattle.rt_json.specs.Trees.{field, list_of, text_of}
 use Rattle.rt_json.proofs.Lookups.{object_members, object_at, list_items}
 use Rattle.rt_presence.specs.Trees.{Held, is_kept, meta_object, under_key, metas_of, metas_tree, joins_and_leaves}
@@ -77,7 +78,7 @@ read_again hs =
 left_out : (name : List ℕ) (m : Member) (ms : List Member) (b : Bool) → bytes_eq m.name name ≡ b
     → last_named name ms ≡ None → last_named name (cond (not b) (m ∷ ms) ms) ≡ None
 left_out name m ms true e h = h
-left_out name m ms false e h = ap (λ (o : Option Json). or_else o (cond (bytes_eq m.name name) (Some m.value) None)) h
+left_out name m ms false e h = ap (λ (o : Option Json). option_or o (cond (bytes_eq m.name name) (Some m.value) None)) h
     ∙ ap (λ (b : Bool). cond b (Some m.value) None) e
 
 none_left : (name : List ℕ) (ms : List Member)
@@ -91,7 +92,7 @@ pub reference_is : (key : List ℕ) (reference : ℕ) (tree : Json) → referenc
 reference_is key reference tree =
     ap (λ (o : Option Json). unwrap_or (o >>= text_of) [])
     (object_at (field (codes "phx_ref") (Text (decimal reference)) ∷ filter is_kept (members_of tree)) (codes "phx_ref")
-    ∙ ap (λ (o : Option Json). or_else o (Some (Text (decimal reference))))
+    ∙ ap (λ (o : Option Json). option_or o (Some (Text (decimal reference))))
     (none_left (codes "phx_ref") (members_of tree)))
 
 differ : (m n : ℕ) (x : Bool) → m < 2 ^ 64 → n < 2 ^ 64 → bytes_eq (decimal m) (decimal n) ≡ x → (m ≡ n → ⊥)

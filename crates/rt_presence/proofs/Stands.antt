@@ -9,11 +9,12 @@ use Rattle.std.specs.Str.{bytes_eq}
 use Rattle.std.proofs.lemmas.Slice.Eq.{bytes_eq-Decides}
 use Rattle.std.proofs.lemmas.Bool.Decides.{Decides-eqb}
 use Rattle.std.proofs.lemmas.Bool.{or_from, or_parts, not-true}
+use Rattle.rt_value.proofs.Tests.{same_tests}
 use Rattle.rt_value.proofs.Among.{Among, from_contains, to_contains, among_filter, filter_among}
 use Rattle.rt_presence.specs.Tracks.{Tracked, track_cmp, is_of, put, without_channel}
 use Rattle.rt_presence.specs.Index.{place_of}
 use Rattle.rt_presence.specs.Calls.{Call, tracks, ends, after_call, after_calls, is_by, Stands, CallsLeave}
-use Rattle.rt_presence.proofs.Orders.{of_place, at_place, same_bool}
+use Rattle.rt_presence.proofs.Orders.{of_place, at_place}
 use Rattle.rt_presence.proofs.Puts.{Put}
 
 abbrev same : Tracked → Tracked → Bool
@@ -59,12 +60,12 @@ pub flip : (t u : Tracked) → same t u ≡ false → same u t ≡ false
 flip t u f = flip_at t u (same u t) refl f
 
 text_flip : (s t : List ℕ) → bytes_eq s t ≡ bytes_eq t s
-text_flip s t = same_bool (bytes_eq s t) (bytes_eq t s)
+text_flip s t = same_tests (bytes_eq s t) (bytes_eq t s)
     (λ e. (bytes_eq-Decides t s).1 (sym ((bytes_eq-Decides s t).0 e)))
     (λ e. (bytes_eq-Decides s t).1 (sym ((bytes_eq-Decides t s).0 e)))
 
 pub number_flip : (n m : ℕ) → (n == m) ≡ (m == n)
-number_flip n m = same_bool (n == m) (m == n) (λ e. (Decides-eqb m n).1 (sym ((Decides-eqb n m).0 e)))
+number_flip n m = same_tests (n == m) (m == n) (λ e. (Decides-eqb m n).1 (sym ((Decides-eqb n m).0 e)))
     (λ e. (Decides-eqb n m).1 (sym ((Decides-eqb m n).0 e)))
 
 ends_flip : (on : List ℕ) (by : ℕ) (u : Tracked) → is_of on by u ≡ (bytes_eq on u.0.topic && (by == u.0.channel))

@@ -113,17 +113,17 @@ abbrev pub reference_at : List ℕ → Option (List ℕ × List ℕ)
 reference_at bytes = elim (starts_with nat_eq bytes (codes "${")) [ true ↦ reference_in (drop 2 bytes) | false ↦ None ]
 
 -- each ${NAME} replaced by the token's text, which isn't looked at again; none where a name is unknown
-abbrev pub filled_within : ℕ → State → List ℕ → Option (List ℕ)
-filled_within zero st bytes = Some bytes
-filled_within (suc n) st [] = Some []
-filled_within (suc n) st (b ∷ bytes) =
+abbrev pub substituted_within : ℕ → State → List ℕ → Option (List ℕ)
+substituted_within zero st bytes = Some bytes
+substituted_within (suc n) st [] = Some []
+substituted_within (suc n) st (b ∷ bytes) =
     elim (reference_at (b ∷ bytes)) [
-      | Some r ↦ token_named st r.0 >>= λ text. option_map (λ more. text ++ more) (filled_within n st r.1)
-      | None ↦ option_map (λ more. b ∷ more) (filled_within n st bytes)
+      | Some r ↦ token_named st r.0 >>= λ text. option_map (λ more. text ++ more) (substituted_within n st r.1)
+      | None ↦ option_map (λ more. b ∷ more) (substituted_within n st bytes)
     ]
 
-abbrev pub filled : State → List ℕ → Option (List ℕ)
-filled st text = filled_within (length text) st text
+abbrev pub substituted : State → List ℕ → Option (List ℕ)
+substituted st text = substituted_within (length text) st text
 
 abbrev pub or_why : {A : Type 0} → LineWhy → Option A → Result A LineWhy
 or_why reason None = Err reason
@@ -205,7 +205,7 @@ state_after st number (command.token name claims) = Some (token_state st name cl
 state_after st number (command.open_ slot version claims) =
     Some (or_why why.Claims (claims_in claims) >> λ found. Ok (with_step number (Arrive (Opened slot version found)) st))
 state_after st number (command.frame slot text) =
-    Some (or_why why.Token (filled st text) >> λ bytes. Ok (with_step number (Arrive (Frame slot bytes)) st))
+    Some (or_why why.Token (substituted st text) >> λ bytes. Ok (with_step number (Arrive (Frame slot bytes)) st))
 state_after st number (command.gone slot) = Some (Ok (with_step number (Arrive (Gone slot)) st))
 state_after st number (command.post slot text) = Some (post_in slot text >> λ i. Ok (with_step number (Arrive i) st))
 state_after st number (command.wal record_) = None

@@ -1,5 +1,6 @@
 -- A signed token passes under its secret exactly where its claims pass the other tests.
 use Rattle.std.proofs.Common.{◌≡◌, ℕ, zero, suc, ◌+◌, ◌*◌, ◌/◌, ◌%◌, List, [], ◌∷◌, ◌++◌, Option, Some, None, Result, Ok, Err, refl, ap, sym, ◌∙◌, append_assoc, append-nil}
+use Rattle.std.proofs.lemmas.Bool.{and_parts, and_from}
 use Rattle.std.specs.Prelude.{Bool, true, false, not, ◌&&◌, ◌==◌, codes, slice_index, unwrap_or, option_and_then}
 use Rattle.std.specs.List.{list_all}
 use Rattle.std.specs.Str.{bytes_eq}
@@ -29,14 +30,6 @@ is_other b = not (b == 46)
 abbrev HasNoDot : List ℕ → Type 0
 HasNoDot xs = list_all is_other xs ≡ true
 
-and_true : (a b : Bool) → (a && b) ≡ true → (a ≡ true) × (b ≡ true)
-and_true true b h = (refl, h)
-and_true false b h = let e : false ≡ true = h in cc
-
-both_true : (a b : Bool) → a ≡ true → b ≡ true → (a && b) ≡ true
-both_true true b h k = k
-both_true false b h k = let e : false ≡ true = h in cc
-
 not_dot : (b : Bool) → not b ≡ true → b ≡ false
 not_dot true h = let e : false ≡ true = h in cc
 not_dot false h = refl
@@ -45,14 +38,14 @@ not_dot false h = refl
 to_dot : (piece xs ys : List ℕ) → HasNoDot xs → pieces_from piece (xs ++ 46 ∷ ys) ≡ (piece ++ xs) ∷ pieces_from [] ys
 to_dot piece [] ys h = ap (λ (p : List ℕ). p ∷ pieces_from [] ys) (sym (append-nil piece))
 to_dot piece (b ∷ xs) ys h =
-    let k = and_true (is_other b) (list_all is_other xs) h in
+    let k = and_parts (is_other b) (list_all is_other xs) h in
     ap (λ (t : Bool). elim t [ true ↦ piece ∷ pieces_from [] (xs ++ 46 ∷ ys) | false ↦ pieces_from (piece ++ b ∷ []) (xs ++ 46 ∷ ys) ]) (not_dot (b == 46) k.0)
     ∙ to_dot (piece ++ b ∷ []) xs ys k.1 ∙ ap (λ (p : List ℕ). p ∷ pieces_from [] ys) (append_assoc piece (b ∷ []) xs)
 
 to_end : (piece xs : List ℕ) → HasNoDot xs → pieces_from piece xs ≡ (piece ++ xs) ∷ []
 to_end piece [] h = ap (λ (p : List ℕ). p ∷ []) (sym (append-nil piece))
 to_end piece (b ∷ xs) h =
-    let k = and_true (is_other b) (list_all is_other xs) h in
+    let k = and_parts (is_other b) (list_all is_other xs) h in
     ap (λ (t : Bool). elim t [ true ↦ piece ∷ pieces_from [] xs | false ↦ pieces_from (piece ++ b ∷ []) xs ]) (not_dot (b == 46) k.0)
     ∙ to_end (piece ++ b ∷ []) xs k.1 ∙ ap (λ (p : List ℕ). p ∷ []) (append_assoc piece (b ∷ []) xs)
 
@@ -64,20 +57,20 @@ cut_again head body tag h b t =
 -- no symbol of the alphabet is a dot
 symbol : (t : List ℕ) → HasNoDot t → (k : ℕ) → is_other (slice_index t k) ≡ true
 symbol [] h k = refl
-symbol (b ∷ bs) h zero = (and_true (is_other b) (list_all is_other bs) h).0
-symbol (b ∷ bs) h (suc k) = symbol bs (and_true (is_other b) (list_all is_other bs) h).1 k
+symbol (b ∷ bs) h zero = (and_parts (is_other b) (list_all is_other bs) h).0
+symbol (b ∷ bs) h (suc k) = symbol bs (and_parts (is_other b) (list_all is_other bs) h).1 k
 
 append_none : (xs ys : List ℕ) → HasNoDot xs → HasNoDot ys → HasNoDot (xs ++ ys)
 append_none [] ys h k = k
-append_none (x ∷ xs) ys h k = let e = and_true (is_other x) (list_all is_other xs) h in both_true (is_other x) (list_all is_other (xs ++ ys)) e.0 (append_none xs ys e.1 k)
+append_none (x ∷ xs) ys h k = let e = and_parts (is_other x) (list_all is_other xs) h in and_from (is_other x) (list_all is_other (xs ++ ys)) e.0 (append_none xs ys e.1 k)
 
 symbols_none : (t m : List ℕ) → HasNoDot t → HasNoDot (encode_symbols t m)
 unfolding encode_symbols
 symbols_none t [] h = refl
-symbols_none t (a ∷ []) h = both_true _ _ (symbol t h _) (both_true _ _ (symbol t h _) refl)
-symbols_none t (a ∷ b ∷ []) h = both_true _ _ (symbol t h _) (both_true _ _ (symbol t h _) (both_true _ _ (symbol t h _) refl))
+symbols_none t (a ∷ []) h = and_from _ _ (symbol t h _) (and_from _ _ (symbol t h _) refl)
+symbols_none t (a ∷ b ∷ []) h = and_from _ _ (symbol t h _) (and_from _ _ (symbol t h _) (and_from _ _ (symbol t h _) refl))
 symbols_none t (a ∷ b ∷ c ∷ rest) h =
-    both_true _ _ (symbol t h (a / 4)) (both_true _ _ (symbol t h (a % 4 * 16 + b / 16)) (both_true _ _ (symbol t h (b % 16 * 4 + c / 64)) (both_true _ _ (symbol t h (c % 64)) (symbols_none t rest h))))
+    and_from _ _ (symbol t h (a / 4)) (and_from _ _ (symbol t h (a % 4 * 16 + b / 16)) (and_from _ _ (symbol t h (b % 16 * 4 + c / 64)) (and_from _ _ (symbol t h (c % 64)) (symbols_none t rest h))))
 
 part_none : (bytes : List ℕ) → HasNoDot (part_of bytes)
 part_none bytes = append_none (encode_symbols url_safe_no_pad.encode_table bytes) [] (symbols_none url_safe_no_pad.encode_table bytes refl) refl

@@ -44,11 +44,3 @@ module _ (members : List Member) (at before : ℕ) (m : Member) (name : List ℕ
   named q had has h e =
       e ∙ ap (cond (bytes_eq name q) true) h ∙ or_is (bytes_eq name q) (among q (drop at members)) ∙ ap (λ (n : List ℕ). bytes_eq n q || among q (drop at members)) called
       ∙ ap (among q) (sym here)
-
-pub true_from_not : (b : Bool) → false ≡ not b → b ≡ true
-true_from_not true h = refl
-true_from_not false h = cc
-
-pub false_from_not : (b : Bool) → true ≡ not b → b ≡ false
-false_from_not true h = cc
-false_from_not false h = refl

@@ -47,6 +47,13 @@ among_flat f (x ∷ xs) y h =
       | inr b ↦ let r = among_flat f xs y b in (r.0, inr r.1, r.2)
     ]
 
+pub flat_among : {A B : Type 0} (f : A → List B) (xs : List A) (x : A) (y : B) → Among xs x → Among (f x) y
+    → Among (flat_map f xs) y
+flat_among f [] x y h k = absurd h
+flat_among {A} {B} f (z ∷ xs) x y (inl e) k =
+    let P : A → Type 0 = λ v. Among (f v) y in among_left (f z) (flat_map f xs) y (subst P (sym e) k)
+flat_among f (z ∷ xs) x y (inr h) k = among_right (f z) (flat_map f xs) y (flat_among f xs x y h k)
+
 pub among_map : {A B : Type 0} (f : A → B) (xs : List A) (y : B) → Among (map f xs) y → (x : A) × Among xs x × (f x ≡ y)
 among_map f [] y h = absurd h
 among_map f (x ∷ xs) y (inl e) = (x, inl refl, e)

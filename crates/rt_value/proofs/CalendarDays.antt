@@ -2,7 +2,7 @@
 use Rattle.std.proofs.Common.{◌≡◌, ℕ, zero, suc, ◌+◌, ◌-◌, ◌*◌, ◌/◌, ◌<◌, ◌≤◌, Bool, true, false, ◌&&◌, cond, List, [], ◌∷◌, length, take, get_or, refl, sym, ap, ◌∙◌, subst, arith, pos, ◌-ℤ◌, ◌≤ℤ◌}
 use Rattle.std.specs.Prelude.{nat_lt, nat_le}
 use Rattle.std.specs.List.{slice_index}
-use Rattle.std.proofs.lemmas.Bool.{and_parts}
+use Rattle.std.proofs.lemmas.Bool.{and_parts, and_from}
 use Rattle.std.proofs.lemmas.Bool.Decides.{nat_tests}
 use Rattle.jiff_core.specs.Calendar.{days_in_month, days_of_months, days_from_civil, IsDate}
 use Rattle.jiff_core.proofs.CalendarLemmas.{days_from_civil-day_count, day_count-day_of_year, days_of_months_table, days_in_month_bounds}
@@ -90,15 +90,12 @@ date_told y m d h =
       day = (le_told 1 d f, subst (λ n. d ≤ n) (month_length y m low high) (le_told d _ g));
     }
 
-both : (a b : Bool) → a ≡ true → b ≡ true → (a && b) ≡ true
-both a b h k = ap (λ x. x && b) h ∙ k
-
 pub date_holds : (y m d : ℕ) → Fits y m d → is_date y m d ≡ true
 unfolding is_date
 date_holds y m d f =
     let last : nat_le d (slice_index (month_lengths y) (m - 1)) ≡ true =
     le_holds d _ (subst (λ n. d ≤ n) (sym (month_length y m f.month.0 f.month.1)) f.day.1) in
-    both _ _ (both _ _ (both _ _ (both _ _ (both _ _ (le_holds 1 y f.year.0) (le_holds y 9999 f.year.1))
+    and_from _ _ (and_from _ _ (and_from _ _ (and_from _ _ (and_from _ _ (le_holds 1 y f.year.0) (le_holds y 9999 f.year.1))
     (le_holds 1 m f.month.0)) (le_holds m 12 f.month.1))
     (le_holds 1 d f.day.0)) last
 

@@ -5,6 +5,8 @@ use Rattle.std.specs.Cmp.{first_so, second_so}
 use Rattle.std.specs.Ordering.{is_lt}
 use Rattle.std.specs.declared.cmp.Ordering.{Ordering}
 use Rattle.std.specs.declared.cmp.Ordering.TheVariants.{Less, Equal, Greater}
+use Rattle.std.specs.Option.{option_or}
+use Rattle.std.proofs.lemmas.Bool.{and_from}
 use Rattle.rt_value.specs.declared.value.Value.{Value}
 use Rattle.rt_value.specs.declared.row.Key.{Key}
 use Rattle.rt_value.specs.declared.row.Row.{Row}
@@ -15,7 +17,7 @@ use Rattle.rt_value.specs.Order.{key_cmp, same_key}
 use Rattle.rt_value.specs.Rows.{is_after, rows_behind, is_rising, row_at, values_at, rows_without, rows_before, rows_with}
 use Rattle.rt_value.specs.Edits.{filled, old_values, left_at, row_of, is_gone, rows_unmoved, edited_rows}
 use Rattle.rt_value.proofs.Ties.{key_ties, same_equal, same_from}
-use Rattle.rt_value.proofs.KeyOrder.{below, not_below_itself, not_below_back, below_by_greater, and_true, all_beyond}
+use Rattle.rt_value.proofs.KeyOrder.{below, not_below_itself, not_below_back, below_by_greater, all_beyond}
 use Rattle.rt_value.proofs.SameRows.{at_front, behind_front}
 
 -- ---- filters of rows
@@ -25,7 +27,7 @@ all_kept test keep [] h = refl
 all_kept test keep (x ∷ xs) h = by (keep x) (all_kept test keep xs (second_so (test x) (list_all test xs) h))
   where
     by : (b : Bool) → list_all test (filter keep xs) ≡ true → list_all test (cond b (x ∷ filter keep xs) (filter keep xs)) ≡ true
-    by true m = and_true (test x) (list_all test (filter keep xs)) (first_so (test x) (list_all test xs) h) m
+    by true m = and_from (test x) (list_all test (filter keep xs)) (first_so (test x) (list_all test xs) h) m
     by false m = m
 
 filter_rises : (keep : Row → Bool) (rows : List Row) → is_rising rows ≡ true → is_rising (filter keep rows) ≡ true
@@ -34,7 +36,7 @@ filter_rises keep (x ∷ xs) h = by (keep x) (filter_rises keep xs (second_so (l
   where
     by : (b : Bool) → is_rising (filter keep xs) ≡ true → is_rising (cond b (x ∷ filter keep xs) (filter keep xs)) ≡ true
     by true m =
-        and_true (list_all (is_after x.key) (filter keep xs)) (is_rising (filter keep xs))
+        and_from (list_all (is_after x.key) (filter keep xs)) (is_rising (filter keep xs))
         (all_kept (is_after x.key) keep xs (first_so (list_all (is_after x.key) xs) (is_rising xs) h)) m
     by false m = m
 
@@ -59,16 +61,11 @@ dropped_at keep key (x ∷ xs) drops = by (keep x) (same_key key x.key) refl ref
     by true false e f m = behind_front key x (filter keep xs) f ∙ m
     by false s e f m = m
 
-or_else : Option Row → Option Row → Option Row
-or_else None o = o
-or_else (Some x) o = Some x
-
-append_at : (key : Key) (xs ys : List Row) → row_at key (xs ++ ys) ≡ or_else (row_at key xs) (row_at key ys)
-unfolding or_else
+append_at : (key : Key) (xs ys : List Row) → row_at key (xs ++ ys) ≡ option_or (row_at key xs) (row_at key ys)
 append_at key [] ys = refl
 append_at key (x ∷ xs) ys = by (same_key key x.key) (append_at key xs ys)
   where
-    by : (b : Bool) → row_at key (xs ++ ys) ≡ or_else (row_at key xs) (row_at key ys) → cond b (Some x) (row_at key (xs ++ ys)) ≡ or_else (cond b (Some x) (row_at key xs)) (row_at key ys)
+    by : (b : Bool) → row_at key (xs ++ ys) ≡ option_or (row_at key xs) (row_at key ys) → cond b (Some x) (row_at key (xs ++ ys)) ≡ option_or (cond b (Some x) (row_at key xs)) (row_at key ys)
     by true m = refl
     by false m = m
 
@@ -96,13 +93,13 @@ all_filtered keep [] = refl
 all_filtered keep (x ∷ xs) = by (keep x) refl (all_filtered keep xs)
   where
     by : (b : Bool) → keep x ≡ b → list_all keep (filter keep xs) ≡ true → list_all keep (cond b (x ∷ filter keep xs) (filter keep xs)) ≡ true
-    by true e m = and_true (keep x) (list_all keep (filter keep xs)) e m
+    by true e m = and_from (keep x) (list_all keep (filter keep xs)) e m
     by false e m = m
 
 all_append : (test : Row → Bool) (xs ys : List Row) → list_all test xs ≡ true → list_all test ys ≡ true → list_all test (xs ++ ys) ≡ true
 all_append test [] ys h g = g
 all_append test (x ∷ xs) ys h g =
-    and_true (test x) (list_all test (xs ++ ys)) (first_so (test x) (list_all test xs) h) (all_append test xs ys (second_so (test x) (list_all test xs) h) g)
+    and_from (test x) (list_all test (xs ++ ys)) (first_so (test x) (list_all test xs) h) (all_append test xs ys (second_so (test x) (list_all test xs) h) g)
 
 append_rises : (xs ys : List Row) (y : Row) → is_rising xs ≡ true → is_rising (y ∷ ys) ≡ true → list_all (λ x. below x.key y.key) xs ≡ true → is_rising (xs ++ y ∷ ys) ≡ true
 append_rises [] ys y rx ry h = ry
@@ -110,27 +107,25 @@ append_rises (x ∷ xs) ys y rx ry h =
     let less = first_so (below x.key y.key) (list_all (λ x. below x.key y.key) xs) h in
     let rest = second_so (below x.key y.key) (list_all (λ x. below x.key y.key) xs) h in
     let behind = all_beyond (λ (r : Row). r.key) x.key y.key ys less (first_so (list_all (is_after y.key) ys) (is_rising ys) ry) in
-    let after = and_true (below x.key y.key) (list_all (is_after x.key) ys) less behind in
-    and_true (list_all (is_after x.key) (xs ++ y ∷ ys)) (is_rising (xs ++ y ∷ ys))
+    let after = and_from (below x.key y.key) (list_all (is_after x.key) ys) less behind in
+    and_from (list_all (is_after x.key) (xs ++ y ∷ ys)) (is_rising (xs ++ y ∷ ys))
     (all_append (is_after x.key) xs (y ∷ ys) (first_so (list_all (is_after x.key) xs) (is_rising xs) rx) after)
     (append_rises xs ys y (second_so (list_all (is_after x.key) xs) (is_rising xs) rx) ry rest)
 
 pub with_rises : (row : Row) (rows : List Row) → is_rising rows ≡ true → is_rising (rows_with row rows) ≡ true
 with_rises row rows h =
     append_rises (rows_before row.key rows) (rows_behind row.key rows) row (filter_rises (λ r. below r.key row.key) rows h)
-    (and_true (list_all (is_after row.key) (rows_behind row.key rows)) (is_rising (rows_behind row.key rows))
+    (and_from (list_all (is_after row.key) (rows_behind row.key rows)) (is_rising (rows_behind row.key rows))
     (all_filtered (is_after row.key) rows) (filter_rises (is_after row.key) rows h))
     (all_filtered (λ r. below r.key row.key) rows)
 
 at_equal : (test : Key → Bool) (key : Key) (b : Bool) → test key ≡ b → (row : Row) → same_key key row.key ≡ true → test row.key ≡ b
 at_equal test key b h row e = ap test (sym (same_equal key row.key e)) ∙ h
 
-none_or : (o p : Option Row) → o ≡ None → or_else o p ≡ p
-unfolding or_else
-none_or o p e = ap (λ o. or_else o p) e
+none_or : (o p : Option Row) → o ≡ None → option_or o p ≡ p
+none_or o p e = ap (λ o. option_or o p) e
 
-or_none : (o p : Option Row) → p ≡ None → or_else o p ≡ o
-unfolding or_else
+or_none : (o p : Option Row) → p ≡ None → option_or o p ≡ o
 or_none None p e = e
 or_none (Some x) p e = refl
 
@@ -143,10 +138,10 @@ with_at row rows =
 pub others_with : (row : Row) (key : Key) (rows : List Row) → same_key key row.key ≡ false → row_at key (rows_with row rows) ≡ row_at key rows
 others_with row key rows apart =
     append_at key (rows_before row.key rows) (row ∷ rows_behind row.key rows)
-    ∙ ap (λ o. or_else (row_at key (rows_before row.key rows)) o) (behind_front key row (rows_behind row.key rows) apart)
+    ∙ ap (λ o. option_or (row_at key (rows_before row.key rows)) o) (behind_front key row (rows_behind row.key rows) apart)
     ∙ by (key_cmp key row.key) refl
   where
-    by : (o : Ordering) → key_cmp key row.key ≡ o → or_else (row_at key (rows_before row.key rows)) (row_at key (rows_behind row.key rows)) ≡ row_at key rows
+    by : (o : Ordering) → key_cmp key row.key ≡ o → option_or (row_at key (rows_before row.key rows)) (row_at key (rows_behind row.key rows)) ≡ row_at key rows
     by Less e =
         let less : below key row.key ≡ true = ap is_lt e in
         or_none _ _ (dropped_at (is_after row.key) key rows (at_equal (below row.key) key false (not_below_back key row.key less)))

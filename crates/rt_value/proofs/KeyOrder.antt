@@ -1,5 +1,6 @@
 -- The strict order of keys, as a test.
 use Rattle.std.proofs.Common.{◌≡◌, Bool, true, false, ◌&&◌, List, [], ◌∷◌, refl, ap, ◌∙◌}
+use Rattle.std.proofs.lemmas.Bool.{and_from}
 use Rattle.std.specs.List.{list_all}
 use Rattle.std.specs.Cmp.{first_so, second_so, tied_itself}
 use Rattle.std.specs.Ordering.{is_lt, is_eq, ordering_reverse}
@@ -35,9 +36,6 @@ above_apart k l h = ap is_eq (key_total.antisymm l k ∙ ap ordering_reverse (le
 pub not_below_back : (k l : Key) → below k l ≡ true → below l k ≡ false
 not_below_back k l h = ap is_lt (key_total.antisymm l k ∙ ap ordering_reverse (less_from _ h))
 
-pub and_true : (a b : Bool) → a ≡ true → b ≡ true → (a && b) ≡ true
-and_true a b h k = ap (λ x. x && b) h ∙ k
-
 -- what is above a key is above all keys below that
 pub all_beyond : {X : Type 0} (key : X → Key) (k l : Key) (xs : List X) → below k l ≡ true → list_all (λ x. below l (key x)) xs ≡ true
     → list_all (λ x. below k (key x)) xs ≡ true
@@ -45,4 +43,4 @@ all_beyond key k l [] a h = refl
 all_beyond key k l (x ∷ xs) a h =
     let head = first_so (below l (key x)) (list_all (λ x. below l (key x)) xs) h in
     let rest = second_so (below l (key x)) (list_all (λ x. below l (key x)) xs) h in
-    and_true (below k (key x)) (list_all (λ x. below k (key x)) xs) (below_trans k l (key x) a head) (all_beyond key k l xs a rest)
+    and_from (below k (key x)) (list_all (λ x. below k (key x)) xs) (below_trans k l (key x) a head) (all_beyond key k l xs a rest)

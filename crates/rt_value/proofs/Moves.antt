@@ -3,6 +3,7 @@ use Rattle.std.proofs.Common.{◌≡◌, Bool, true, false, ◌||◌, cond, not,
 use Rattle.std.specs.Prelude.{IsPermutation}
 use Rattle.std.specs.List.{filter, list_any}
 use Rattle.std.proofs.lemmas.List.Sorted.{IsPermutation-refl, IsPermutation-cons, IsPermutation-append_comm, IsPermutation-append_left, IsPermutation-trans}
+use Rattle.rt_value.proofs.Tests.{or_swap}
 
 pub data Moves {A : Type 0} : List A → List A → Type 0 where
   none : (xs : List A) → Moves xs xs
@@ -75,13 +76,8 @@ pub moves_parts : {A : Type 0} (p : A → Bool) (xs : List A) → Moves xs (filt
 moves_parts p [] = none []
 moves_parts p (x ∷ xs) = parted p x xs (filter p xs) (filter (λ y. not (p y)) xs) (p x) (moves_parts p xs)
 
-any_swap : (a b c : Bool) → (a || (b || c)) ≡ (b || (a || c))
-any_swap true true c = refl
-any_swap true false c = refl
-any_swap false b c = refl
-
 pub moves_any : {A : Type 0} (p : A → Bool) (xs ys : List A) → Moves xs ys → list_any p xs ≡ list_any p ys
 moves_any p xs ys (none zs) = refl
 moves_any p xs ys (skip x us vs m) = ap (λ t. p x || t) (moves_any p us vs m)
-moves_any p xs ys (swap x y zs) = any_swap (p x) (p y) (list_any p zs)
+moves_any p xs ys (swap x y zs) = or_swap (p x) (p y) (list_any p zs)
 moves_any p xs ys (then_to us vs ws m n) = moves_any p us vs m ∙ moves_any p vs ws n

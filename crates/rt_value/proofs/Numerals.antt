@@ -1,5 +1,6 @@
 -- What `parse` gives of a whole number is the number that the definition reads.
 use Rattle.std.proofs.Common.{◌≡◌, ℕ, ◌<◌, ◌≤◌, Bool, true, false, ◌&&◌, List, length, ℤ, pos, negsuc, Some, Result, Ok, Err, refl, arith, w16, w32, w64, ap, sym, ◌∙◌}
+use Rattle.std.proofs.lemmas.Bool.{false_from_ne_true}
 use Rattle.std.specs.Bool.{Decides}
 use Rattle.std.specs.Prelude.{nat_lt, FitsSigned}
 use Rattle.std.specs.Result.{OkIff, result_ok}
@@ -8,6 +9,7 @@ use Rattle.std.specs.Str.Parse.{AllDigits, IsNumeral, ParsesSigned, digits_value
 use Rattle.std.proofs.lemmas.Bool.Decides.{nat_tests}
 use Rattle.std.proofs.lemmas.Int.{ints}
 use Rattle.std.proofs.lemmas.Str.Parse.{IsNumeralModel, numerals_by_value, tells_all_ascii_digits}
+use Rattle.rt_value.proofs.Tests.{digits}
 use mir.Syntax.{Width}
 use Rattle.rt_value.specs.Choice.{◌>>=◌, some_if}
 use Rattle.rt_value.specs.Reading.{is_numeral, fits, int_in_text}
@@ -25,9 +27,6 @@ pub fits_64 : (z : ℤ) → Decides (fits 64 z) (FitsSigned w64 z)
 fits_64 (pos n) = (λ h. let le : n ≤ 9223372036854775807 = grind (arith, nat_tests, h) in omega (arith, ints), λ h. let le : n ≤ 9223372036854775807 = omega (arith, ints, h) in grind (arith, nat_tests, le))
 fits_64 (negsuc n) = (λ h. let le : n ≤ 9223372036854775807 = grind (arith, nat_tests, h) in omega (arith, ints), λ h. let le : n ≤ 9223372036854775807 = omega (arith, ints, h) in grind (arith, nat_tests, le))
 
-digits : IsNumeralModel (λ ds. all_ascii_digits ds ≡ true) (digits_value 10)
-digits = numerals_by_value _ tells_all_ascii_digits
-
 both_decide : (a b : Bool) (P Q : Type 0) → Decides a P → Decides b Q → Decides (a && b) (P × Q)
 both_decide true b P Q p q = (λ h. (p.0 refl, q.0 h), λ h. q.1 h.1)
 both_decide false b P Q p q = (λ h. let e : false ≡ true = h in cc, λ h. p.1 h.0)
@@ -37,15 +36,11 @@ numeral_decides ds =
     both_decide (nat_lt 0 (length ds)) (all_ascii_digits ds) (0 < length ds) (AllDigits 10 ds)
     (λ h. grind (arith, nat_tests, h), λ h. grind (arith, nat_tests, h)) (digits.to ds, digits.from ds)
 
-false_by : (b : Bool) → (b ≡ true → ⊥) → b ≡ false
-false_by true f = absurd (f refl)
-false_by false f = refl
-
 -- where the tests decide what `parse` asks, its number is that of the tests
 read_by : {E : Type 0} (a : Bool) (P Q : Type 0) (test : ℤ → Bool) (v : ℤ) (r : Result ℤ E) → Decides a P → Decides (test v) Q → OkIff r (P × Q) v
     → result_ok r ≡ (some_if a v >>= λ n. some_if (test n) n)
 read_by true P Q test v (Ok x) p q h = ap Some h.1 ∙ ap (λ b. some_if b v) (sym (q.1 h.0.1))
-read_by true P Q test v (Err e) p q h = ap (λ b. some_if b v) (sym (false_by (test v) (λ t. h (p.0 refl, q.0 t))))
+read_by true P Q test v (Err e) p q h = ap (λ b. some_if b v) (sym (false_from_ne_true (test v) (λ t. h (p.0 refl, q.0 t))))
 read_by false P Q test v (Ok x) p q h = let e : false ≡ true = p.1 h.0.0 in cc
 read_by false P Q test v (Err e) p q h = refl
 

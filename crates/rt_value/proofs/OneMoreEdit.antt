@@ -1,5 +1,6 @@
 -- What one more edit does to the rows.
 use Rattle.std.proofs.Common.{◌≡◌, ◌≢◌, ℕ, Bool, true, false, ◌==◌, List, ◌∷◌, Option, Some, None, refl, ap, sym, ◌∙◌}
+use Rattle.std.proofs.lemmas.Bool.{false_from_ne_true}
 use Rattle.std.specs.Cmp.{unsigned_Decides}
 use Rattle.rt_value.specs.declared.value.Value.{Value}
 use Rattle.rt_value.specs.declared.row.Key.{Key}
@@ -16,12 +17,8 @@ Rows = Key → Option (List Value)
 same_number : (n : ℕ) → (n == n) ≡ true
 same_number n = (unsigned_Decides n n).1 refl
 
-false_by : (b : Bool) → (b ≡ true → ⊥) → b ≡ false
-false_by true f = absurd (f refl)
-false_by false f = refl
-
 other_numbers : (m n : ℕ) → m ≢ n → (m == n) ≡ false
-other_numbers m n differ = false_by (m == n) (λ h. differ ((unsigned_Decides m n).0 h))
+other_numbers m n differ = false_from_ne_true (m == n) (λ h. differ ((unsigned_Decides m n).0 h))
 
 -- an edit of the table
 pub here : (table : ℕ) (edit : Edit) (before : List TableEdit) (key : Key)

@@ -5,12 +5,13 @@ use Rattle.std.specs.Cmp.{first_so, second_so}
 use Rattle.std.specs.Ordering.{is_lt}
 use Rattle.std.specs.declared.cmp.Ordering.{Ordering}
 use Rattle.std.specs.declared.cmp.Ordering.TheVariants.{Less, Equal, Greater}
+use Rattle.std.proofs.lemmas.Bool.{and_from}
 use Rattle.rt_value.specs.declared.row.Key.{Key}
 use Rattle.rt_value.specs.declared.row.Row.{Row}
 use Rattle.rt_value.specs.Order.{key_cmp, same_key}
 use Rattle.rt_value.specs.Rows.{is_after, is_rising, row_at}
 use Rattle.rt_value.proofs.Ties.{key_ties, same_itself, same_equal}
-use Rattle.rt_value.proofs.KeyOrder.{below, below_apart, below_by_greater, and_true, all_beyond}
+use Rattle.rt_value.proofs.KeyOrder.{below, below_apart, below_by_greater, all_beyond}
 
 pub at_front : (x : Row) (xs : List Row) → row_at x.key (x ∷ xs) ≡ Some x
 at_front x xs = ap (λ b. cond b (Some x) (row_at x.key xs)) (same_itself x.key)
@@ -29,7 +30,7 @@ none_below key (x ∷ xs) h =
 only_here : (x y : Row) (xs ys : List Row) → below x.key y.key ≡ true → is_rising (y ∷ ys) ≡ true → row_at x.key (x ∷ xs) ≡ row_at x.key (y ∷ ys) → ⊥
 only_here x y xs ys less rises same =
     let behind = all_beyond (λ (r : Row). r.key) x.key y.key ys less (first_so (list_all (is_after y.key) ys) (is_rising ys) rises) in
-    let none = none_below x.key (y ∷ ys) (and_true (below x.key y.key) (list_all (is_after x.key) ys) less behind) in
+    let none = none_below x.key (y ∷ ys) (and_from (below x.key y.key) (list_all (is_after x.key) ys) less behind) in
     let w : Some x ≡ None = sym (at_front x xs) ∙ same ∙ none in
     absurd (cc)
 

@@ -1,5 +1,6 @@
 -- What is shown of a moment reads as the same moment.
 use Rattle.std.proofs.Common.{◌≡◌, ℕ, suc, ◌+◌, ◌-◌, ◌*◌, ◌/◌, ◌%◌, ◌<◌, ◌≤◌, ◌==◌, Bool, true, false, ◌&&◌, cond, List, [], ◌∷◌, ◌++◌, length, take, drop, take_at, drop_at, codes, Option, Some, refl, sym, ap, ◌∙◌, subst, arith, ℤ, pos, negsuc, neg_ℤ, ◌+ℤ◌, ◌-ℤ◌, ◌*ℤ◌, ◌≤ℤ◌, ◌<ℤ◌, ◌⊎◌, inl, inr, ne_eqb}
+use Rattle.std.proofs.lemmas.Bool.{and_from, false_from_ne_true}
 use Rattle.std.specs.Prelude.{nat_lt, unsigned_abs}
 use Rattle.std.specs.Char.{is_ascii_digit}
 use Rattle.std.specs.List.{position_or_len}
@@ -13,9 +14,6 @@ use Rattle.rt_value.specs.Choice.{◌>>=◌, some_if, first_case}
 use Rattle.rt_value.specs.Moments.{IsMoment, latest, earliest, is_zone_sign, looks_like, two_at, day_in_text, clock, civil_in_text, fraction_in_text, is_zone, zone_in_text, instant_of, instant_in_text, moment_in_text, is_in_years, two_digits, six_digits, fraction_shown, date_shown, clock_shown, instant_shown, moment_shown}
 use Rattle.rt_value.proofs.CalendarDays.{date_at, date_holds, smaller}
 use Rattle.rt_value.proofs.ShownText.{with_places, by_places}
-
-both : (a b : Bool) → a ≡ true → b ≡ true → (a && b) ≡ true
-both a b h k = ap (λ x. x && b) h ∙ k
 
 digit : (n : ℕ) → n < 10 → is_ascii_digit (48 + n) ≡ true
 digit n h = grind (arith, nat_tests)
@@ -37,7 +35,7 @@ ReadsWith u k = fraction_in_text (with_places u k) ≡ Some u
 -- a text of so many digits behind a dot, by its value
 by_value : (u value : ℕ) (looks long : Bool) → looks ≡ true → long ≡ true → value ≡ u → some_if (looks && long) value
     ≡ Some u
-by_value u value looks long a b e = ap (λ x. some_if x value) (both looks long a b) ∙ ap Some e
+by_value u value looks long a b e = ap (λ x. some_if x value) (and_from looks long a b) ∙ ap Some e
 
 not_zero : (u k : ℕ) → (u ≡ 0 → ⊥) → fraction_in_text (46 ∷ take k (six_digits u)) ≡ Some u → ReadsWith u k
 not_zero u k z h = ap (λ b. fraction_in_text (cond b [] (46 ∷ take k (six_digits u)))) (ne_eqb _ _ z) ∙ h
@@ -53,15 +51,15 @@ fraction_again u h =
     let f = digit (u % 100 % 10) (omega arith) in
     by_places u (ReadsWith u)
     (λ z. rw z refl)
-    (λ z m. not_zero u 1 z (by_value u _ _ true (both _ _ a refl) refl (omega (arith, m))))
-    (λ z m. not_zero u 2 z (by_value u _ _ true (both _ _ a (both _ _ b refl)) refl (omega (arith, m))))
-    (λ z m. not_zero u 3 z (by_value u _ _ true (both _ _ a (both _ _ b (both _ _ c refl))) refl (omega (arith, m))))
-    (λ z m. not_zero u 4 z (by_value u _ _ true (both _ _ a (both _ _ b (both _ _ c (both _ _ d refl)))) refl
+    (λ z m. not_zero u 1 z (by_value u _ _ true (and_from _ _ a refl) refl (omega (arith, m))))
+    (λ z m. not_zero u 2 z (by_value u _ _ true (and_from _ _ a (and_from _ _ b refl)) refl (omega (arith, m))))
+    (λ z m. not_zero u 3 z (by_value u _ _ true (and_from _ _ a (and_from _ _ b (and_from _ _ c refl))) refl (omega (arith, m))))
+    (λ z m. not_zero u 4 z (by_value u _ _ true (and_from _ _ a (and_from _ _ b (and_from _ _ c (and_from _ _ d refl)))) refl
     (omega (arith, m))))
-    (λ z m. not_zero u 5 z (by_value u _ _ true (both _ _ a
-    (both _ _ b (both _ _ c (both _ _ d (both _ _ e refl))))) refl (omega (arith, m))))
-    (λ z. not_zero u 6 z (by_value u _ _ true (both _ _ a
-    (both _ _ b (both _ _ c (both _ _ d (both _ _ e (both _ _ f refl)))))) refl (omega (arith, h))))
+    (λ z m. not_zero u 5 z (by_value u _ _ true (and_from _ _ a
+    (and_from _ _ b (and_from _ _ c (and_from _ _ d (and_from _ _ e refl))))) refl (omega (arith, m))))
+    (λ z. not_zero u 6 z (by_value u _ _ true (and_from _ _ a
+    (and_from _ _ b (and_from _ _ c (and_from _ _ d (and_from _ _ e (and_from _ _ f refl)))))) refl (omega (arith, h))))
 
 -- a fraction has no sign of a zone in it
 
@@ -130,7 +128,7 @@ clock_again s h =
     let whole : s / 3600 * 3600 + s / 60 % 60 * 60 + s % 60 ≡ s = omega arith in
     (λ i. clock 24 (two_back (s / 3600) i) (two_back (s / 60 % 60) i) (two_back (s % 60) i))
     ∙ ap (λ b. some_if b (pos (s / 3600 * 3600 + s / 60 % 60 * 60 + s % 60)))
-    (both _ _ (both _ _ (lt_holds (s / 3600) 24 (omega arith)) (lt_holds (s / 60 % 60) 60 (omega arith)))
+    (and_from _ _ (and_from _ _ (lt_holds (s / 3600) 24 (omega arith)) (lt_holds (s / 60 % 60) 60 (omega arith)))
     (lt_holds (s % 60) 60 (omega arith)))
     ∙ ap (λ n. Some (pos n)) whole
 
@@ -245,10 +243,6 @@ instant_again t m h e years =
 
 -- each moment
 
-false_by : (b : Bool) → (b ≡ true → ⊥) → b ≡ false
-false_by true f = absurd (f refl)
-false_by false f = refl
-
 -- the moment lies in the years 1 to 9999
 abbrev pub InYears : ℤ → Type 0
 InYears m = (neg_ℤ (pos 62135596800000000) ≤ℤ m) × (m <ℤ pos 253402300800000000)
@@ -261,11 +255,11 @@ bounds (negsuc n) h = let le : n ≤ 62135596799999999 = grind (arith, nat_tests
     (omega (arith, ints, le), omega (arith, ints))
 
 not_latest : (m : ℤ) → InYears m → int_eq m latest ≡ false
-not_latest m h = false_by (int_eq m latest) (λ e. let same : m ≡ latest = (signed_Decides m latest).0 e in omega
+not_latest m h = false_from_ne_true (int_eq m latest) (λ e. let same : m ≡ latest = (signed_Decides m latest).0 e in omega
     (arith, ints, h.0, h.1, same))
 
 not_earliest : (m : ℤ) → InYears m → int_eq m earliest ≡ false
-not_earliest m h = false_by (int_eq m earliest) (λ e. let same : m ≡ earliest = (signed_Decides m earliest).0 e in omega
+not_earliest m h = false_from_ne_true (int_eq m earliest) (λ e. let same : m ≡ earliest = (signed_Decides m earliest).0 e in omega
     (arith, ints, h.0, h.1, same))
 
 abbrev shown_by : Bool → Bool → Bool → ℤ → List ℕ

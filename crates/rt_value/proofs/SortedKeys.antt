@@ -4,13 +4,15 @@ use Rattle.std.specs.List.{list_all, list_any}
 use Rattle.std.specs.Ordering.{is_lt}
 use Rattle.std.specs.declared.cmp.Ordering.{Ordering}
 use Rattle.std.specs.declared.cmp.Ordering.TheVariants.{Less, Equal, Greater}
+use Rattle.std.proofs.lemmas.Bool.{and_from}
+use Rattle.rt_value.proofs.Tests.{or_swap}
 use Rattle.rt_value.specs.declared.row.Key.{Key}
 use Rattle.rt_value.specs.Order.{key_cmp, same_key}
 use Rattle.rt_value.specs.Ordered.{inserted_by, inserted, in_order}
 use Rattle.rt_value.specs.TotalOrder.{key_total}
 use Rattle.rt_value.proofs.InOrder as order
 use Rattle.rt_value.proofs.Ties.{key_ties}
-use Rattle.rt_value.proofs.KeyOrder.{below, and_true}
+use Rattle.rt_value.proofs.KeyOrder.{below}
 
 abbrev pub keys_rise : List Key → Bool
 keys_rise [] = true
@@ -21,11 +23,11 @@ has key ks = list_any (same_key key) ks
 
 all_below : (k : Key) (ks : List Key) → order.Above key_cmp key_total k ks → list_all (below k) ks ≡ true
 all_below k [] a = refl
-all_below k (l ∷ ks) a = and_true (below k l) (list_all (below k) ks) (ap is_lt a.0) (all_below k ks a.1)
+all_below k (l ∷ ks) a = and_from (below k l) (list_all (below k) ks) (ap is_lt a.0) (all_below k ks a.1)
 
 rise_so : (ks : List Key) → order.Rises key_cmp key_total ks → keys_rise ks ≡ true
 rise_so [] r = refl
-rise_so (k ∷ ks) r = and_true (list_all (below k) ks) (keys_rise ks) (all_below k ks r.0) (rise_so ks r.1)
+rise_so (k ∷ ks) r = and_from (list_all (below k) ks) (keys_rise ks) (all_below k ks r.0) (rise_so ks r.1)
 
 pub in_order_rises : (ks : List Key) → keys_rise (in_order key_cmp ks) ≡ true
 in_order_rises ks = rise_so (in_order key_cmp ks) (order.in_order_rises key_cmp key_total ks)
@@ -33,11 +35,6 @@ in_order_rises ks = rise_so (in_order key_cmp ks) (order.in_order_rises key_cmp 
 or_again : (a b : Bool) → (a || b) ≡ (a || (a || b))
 or_again true b = refl
 or_again false b = refl
-
-or_swap : (a b c : Bool) → (a || (b || c)) ≡ (b || (a || c))
-or_swap true true c = refl
-or_swap true false c = refl
-or_swap false b c = refl
 
 put_has : (key k l : Key) (ls more : List Key) (o : Ordering) → key_cmp k l ≡ o → has key more ≡ (same_key key k || has key ls)
     → has key (inserted_by key_cmp o k l ls more) ≡ (same_key key k || has key (l ∷ ls))

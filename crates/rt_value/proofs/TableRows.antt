@@ -2,6 +2,7 @@
 use Rattle.std.proofs.Common.{◌≡◌, ℕ, Bool, true, false, ◌==◌, ◌||◌, cond, List, [], ◌∷◌, ◌++◌, Option, Some, None, option_map, refl, ap, sym, ◌∙◌}
 use Rattle.std.specs.List.{list_all, filter_map, flat_map, cons_option}
 use Rattle.std.specs.Cmp.{first_so, second_so}
+use Rattle.std.proofs.lemmas.Bool.{and_from, or_parts}
 use Rattle.rt_value.specs.declared.value.Value.{Value}
 use Rattle.rt_value.specs.declared.row.Key.{Key}
 use Rattle.rt_value.specs.declared.row.Row.{Row}
@@ -13,7 +14,7 @@ use Rattle.rt_value.specs.Ordered.{in_order}
 use Rattle.rt_value.specs.Rows.{is_after, is_rising, row_at}
 use Rattle.rt_value.specs.Edits.{TableEdit, filled, old_values, left_at, row_after, keys_put, row_of, tables_after}
 use Rattle.rt_value.proofs.Ties.{same_equal}
-use Rattle.rt_value.proofs.KeyOrder.{below, and_true}
+use Rattle.rt_value.proofs.KeyOrder.{below}
 use Rattle.rt_value.proofs.SortedKeys.{keys_rise, has, in_order_rises, in_order_has}
 
 -- the rows that a function gives at keys
@@ -27,7 +28,7 @@ module _ (values : Key → Option (List Value)) where
   kept_after : (k l : Key) (ks : List Key) (o : Option (List Value)) → below k l ≡ true → list_all (is_after k) (rows_given ks) ≡ true
       → list_all (is_after k) (front l o ks) ≡ true
   kept_after k l ks None a h = h
-  kept_after k l ks (Some vs) a h = and_true (below k l) (list_all (is_after k) (rows_given ks)) a h
+  kept_after k l ks (Some vs) a h = and_from (below k l) (list_all (is_after k) (rows_given ks)) a h
 
   given_after : (k : Key) (ks : List Key) → list_all (below k) ks ≡ true → list_all (is_after k) (rows_given ks) ≡ true
   given_after k [] h = refl
@@ -37,7 +38,7 @@ module _ (values : Key → Option (List Value)) where
   kept_rises : (k : Key) (ks : List Key) (o : Option (List Value)) → list_all (is_after k) (rows_given ks) ≡ true → is_rising (rows_given ks) ≡ true
       → is_rising (front k o ks) ≡ true
   kept_rises k ks None a h = h
-  kept_rises k ks (Some vs) a h = and_true (list_all (is_after k) (rows_given ks)) (is_rising (rows_given ks)) a h
+  kept_rises k ks (Some vs) a h = and_from (list_all (is_after k) (rows_given ks)) (is_rising (rows_given ks)) a h
 
   given_rises : (ks : List Key) → keys_rise ks ≡ true → is_rising (rows_given ks) ≡ true
   given_rises [] h = refl
@@ -78,10 +79,6 @@ has_append key (k ∷ ks) ls = ap (λ b. same_key key k || b) (has_append key ks
     or_assoc true b c = refl
     or_assoc false b c = refl
 
-neither : (a b : Bool) → (a || b) ≡ false → (a ≡ false) × (b ≡ false)
-neither true b h = absurd (cc)
-neither false b h = (refl, h)
-
 none_either : (b : Bool) (o : Option (List Value)) → o ≡ None → elim b as (λ _. Option (List Value)) [ true ↦ None | false ↦ o ] ≡ None
 none_either true o h = refl
 none_either false o h = h
@@ -92,7 +89,7 @@ left_none : (edit : Edit) (key : Key) (before : Key → Option (List Value)) (t 
 left_none Clear key before t table h s e = refl
 left_none (Remove gone) key before t table h s e = none_either (same_key key gone) (before key) e
 left_none (Put old new cells) key before t table h s e =
-    let apart : same_key key new ≡ false = (neither (same_key key new) false (ap (λ b. has key (cond b (new ∷ []) [])) (sym s) ∙ h)).0 in
+    let apart : same_key key new ≡ false = (or_parts (same_key key new) false (ap (λ b. has key (cond b (new ∷ []) [])) (sym s) ∙ h)).0 in
     ap (λ b. elim b [ true ↦ Some (filled cells (old_values old before)) | false ↦ elim (is_at (same_key key) old) [ true ↦ None | false ↦ before key ] ]) apart
     ∙ none_either (is_at (same_key key) old) (before key) e
 left_none Nothing key before t table h s e = e
@@ -111,7 +108,7 @@ module _ (table : ℕ) (key : Key) where
   none_put : (edits : List TableEdit) → has key (flat_map (keys_put table) edits) ≡ false → row_after edits table key ≡ None
   none_put [] h = refl
   none_put ((t, edit) ∷ before) h =
-      let parts = neither (has key (keys_put table (t, edit))) (has key (flat_map (keys_put table) before))
+      let parts = or_parts (has key (keys_put table (t, edit))) (has key (flat_map (keys_put table) before))
       (sym (has_append key (keys_put table (t, edit)) (flat_map (keys_put table) before)) ∙ h) in
       one_more t edit before (t == table) refl parts.0 (none_put before parts.1)
 

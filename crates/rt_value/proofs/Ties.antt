@@ -15,7 +15,7 @@ use Rattle.rt_value.specs.TotalOrder.{key_total}
 abbrev pub TiesEqual : {X : Type 0} → (X → X → Ordering) → Type 0
 TiesEqual {X} R = (x y : X) → R x y ≡ Equal → x ≡ y
 
-both_equal : (o p : Ordering) → ordering_then o p ≡ Equal → (o ≡ Equal) × (p ≡ Equal)
+pub both_equal : (o p : Ordering) → ordering_then o p ≡ Equal → (o ≡ Equal) × (p ≡ Equal)
 both_equal Less p h = absurd (cc)
 both_equal Equal p h = (refl, h)
 both_equal Greater p h = absurd (cc)

@@ -2,7 +2,7 @@
 use Rattle.std.proofs.Common.{◌≡◌, ℕ, ◌+◌, ◌<◌, ◌≤◌, ◌⊎◌, inl, inr, Bool, true, false, not, ◌&&◌, List, [], ◌∷◌, ◌++◌, length, refl, sym, ap, ◌∙◌, subst, arith, append_assoc, append-nil}
 use Rattle.std.specs.Prelude.{filter, nat_le}
 use Rattle.std.specs.List.{AllZip, flat_map}
-use Rattle.std.proofs.lemmas.Bool.{leb-true, leb-false}
+use Rattle.std.proofs.lemmas.Bool.{leb-true, leb-false, and_parts}
 use Rattle.std.proofs.lemmas.Grind.{flat_map-append}
 use Rattle.std.proofs.lemmas.List.{length_push}
 use Rattle.std.proofs.lemmas.List.Elements.{All-push, filter-append}
@@ -11,10 +11,6 @@ use Rattle.rt_wal.specs.declared.batching.Batching.{Batching}
 use Rattle.rt_wal.specs.declared.batching.Batching.TheVariants.{Batch, More}
 use Rattle.rt_wal.specs.Records.{IsRecord}
 use Rattle.rt_wal.specs.Batches.{is_blank, is_commit, IsOpen, IsWhole, IsCutSoFar, Waiting, HasCut, batches_in, ends_batch, IsNext, TakesLine, blank, taken}
-
-both : (a b : Bool) → (a && b) ≡ true → (a ≡ true) × (b ≡ true)
-both true b h = (refl, h)
-both false b h = cc
 
 second : (a b : Bool) → (a && b) ≡ false → a ≡ true → b ≡ false
 second true b h k = h
@@ -76,7 +72,7 @@ shown_push lines line h =
 cut_batch : (max : ℕ) (records : List Record) (given : List (List Record)) (rest : List Record) (entry : Record) → IsCutSoFar max records given rest → ends_batch max rest entry ≡ true
     → IsCutSoFar max (records ++ entry ∷ []) (given ++ (rest ++ entry ∷ []) ∷ []) []
 cut_batch max records given rest entry cut ends =
-    let tests = both (is_commit entry.action) (nat_le max (length rest + 1)) ends in
+    let tests = and_parts (is_commit entry.action) (nat_le max (length rest + 1)) ends in
     let enough : max ≤ length rest + 1 = leb-true max (length rest + 1) tests.1 in
     let long : length (rest ++ entry ∷ []) ≡ length rest + 1 = length_push rest entry in
     let whole : IsWhole max (rest ++ entry ∷ []) = record { front = rest; last = entry; parts = refl; open_before = cut.is_open; is_commit = tests.0; enough = omega arith } in

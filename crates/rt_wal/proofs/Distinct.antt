@@ -3,6 +3,7 @@ use Rattle.std.proofs.Common.{◌≡◌, ℕ, Bool, true, false, List, [], ◌�
 use Rattle.std.specs.List.{list_any}
 use Rattle.std.specs.Str.{bytes_eq}
 use Rattle.std.proofs.lemmas.Slice.Eq.{bytes_eq-Decides}
+use Rattle.std.proofs.lemmas.Bool.{or_parts}
 use Rattle.rt_wal.specs.Shapes.{are_distinct}
 
 -- the test of two texts in either order
@@ -19,10 +20,6 @@ bytes_eq-comm a b = by_tests (bytes_eq a b) (bytes_eq b a)
 not_both : (a b : Bool) → (not a && b) ≡ true → (a ≡ false) × (b ≡ true)
 not_both true b h = cc
 not_both false b h = (refl, h)
-
-neither : (a b : Bool) → (a || b) ≡ false → (a ≡ false) × (b ≡ false)
-neither true b h = cc
-neither false b h = (refl, h)
 
 pub any_push : (q n : List ℕ) (xs : List (List ℕ)) → list_any (bytes_eq q) (xs ++ n ∷ []) ≡ cond (bytes_eq n q) true (list_any (bytes_eq q) xs)
 any_push q n [] = ap (λ b. b || false) (bytes_eq-comm q n) ∙ last (bytes_eq n q)
@@ -42,7 +39,7 @@ pub distinct_push : (n : List ℕ) (xs : List (List ℕ)) → are_distinct xs �
 distinct_push n [] h k = refl
 distinct_push n (x ∷ xs) h k =
     let t = not_both (list_any (bytes_eq x) xs) (are_distinct xs) h in
-    let u = neither (bytes_eq n x) (list_any (bytes_eq n) xs) k in
+    let u = or_parts (bytes_eq n x) (list_any (bytes_eq n) xs) k in
     rw (any_push x n xs, u.0, t.0) (distinct_push n xs t.1 u.1)
 
 either : (b : Bool) → (b || true) ≡ true
@@ -66,11 +63,3 @@ again n x xs ys rest false e k = rw (rest k) (never (list_any (bytes_eq x) (xs +
 pub distinct_twice : (n : List ℕ) (xs ys : List (List ℕ)) → list_any (bytes_eq n) xs ≡ true → are_distinct (xs ++ n ∷ ys) ≡ false
 distinct_twice n [] ys h = cc
 distinct_twice n (x ∷ xs) ys h = again n x xs ys (λ k. distinct_twice n xs ys k) (bytes_eq n x) refl h
-
-pub true_from_not : (b : Bool) → false ≡ not b → b ≡ true
-true_from_not true h = refl
-true_from_not false h = cc
-
-pub false_from_not : (b : Bool) → true ≡ not b → b ≡ false
-false_from_not true h = cc
-false_from_not false h = refl

@@ -3,7 +3,8 @@ use Rattle.std.specs.BTreeSet.{contains}
 use Rattle.std.specs.Cmp.Lexicographic.{slice_cmp}
 use Rattle.std.specs.Ordering.{nat_cmp}
 use Rattle.std.proofs.lemmas.Map.Text.{is_eq-slice_cmp}
-use Rattle.rt_token.proofs.LastOfEach.{taken, left_out, named, true_from_not, false_from_not}
+use Rattle.rt_value.proofs.Tests.{true_from_not, false_from_not}
+use Rattle.rt_token.proofs.LastOfEach.{taken, left_out, named}
 use Rattle.rt_token.proofs.claims.claims_in.Goals as goal
 
 pub loop-at-preserved : goal.loop-at-preserved

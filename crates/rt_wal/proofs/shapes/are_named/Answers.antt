@@ -4,7 +4,8 @@ use Rattle.std.specs.BTreeSet.{contains}
 use Rattle.std.specs.Cmp.Lexicographic.{slice_cmp}
 use Rattle.std.specs.Ordering.{nat_cmp}
 use Rattle.std.proofs.lemmas.Map.Text.{is_eq-slice_cmp}
-use Rattle.rt_wal.proofs.Distinct.{any_push, distinct_push, true_from_not, false_from_not}
+use Rattle.rt_value.proofs.Tests.{true_from_not, false_from_not}
+use Rattle.rt_wal.proofs.Distinct.{any_push, distinct_push}
 use Rattle.rt_wal.proofs.Names.{follows_from, named_twice, follows_more}
 use Rattle.rt_wal.proofs.shapes.are_named.Goals as goal
 
