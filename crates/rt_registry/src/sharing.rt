@@ -1,13 +1,19 @@
+ghost use Rattle.std.specs.Thread.{IsSend, IsSync};
+ghost use Rattle.rt_registry.specs.contracts.binding.Binding as binding;
+ghost use Rattle.rt_registry.specs.contracts.binding.Subscribed as subscribed;
+ghost use Rattle.rt_registry.specs.contracts.subscriptions.Subscriptions as subscriptions;
+
 use crate::{Binding, Subscribed, Subscriptions};
 use rt_value::may_share;
 
-/// Each type of this crate that stands in what threads hand one another may be given and shared.
-pub fn subscriptions_may_be_shared(
-    binding: &Binding,
-    subscribed: &Subscribed,
-    subscriptions: &Subscriptions,
-) {
-    may_share(binding);
-    may_share(subscribed);
-    may_share(subscriptions);
+/// Each type of this crate that stands in what threads hand one another may be given to a thread,
+/// and shared by threads.
+pub fn subscriptions_may_be_shared()
+    ensures binding { IsSend binding.the_row × IsSync binding.the_row }
+    ensures subscribed { IsSend subscribed.the_row × IsSync subscribed.the_row }
+    ensures subscriptions { IsSend subscriptions.the_row × IsSync subscriptions.the_row }
+{
+    may_share::<Binding>();
+    may_share::<Subscribed>();
+    may_share::<Subscriptions>();
 }
