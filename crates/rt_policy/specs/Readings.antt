@@ -7,7 +7,8 @@ use Rattle.rt_policy.specs.declared.expr.Expr.{Expr}
 use Rattle.rt_policy.specs.declared.expr.Expr.TheOpen.{Expr-F}
 use Rattle.rt_policy.specs.declared.expr.Expr.TheFolds.{fold-Expr}
 use Rattle.rt_policy.specs.declared.scope.Scope.{Scope}
-use Rattle.rt_policy.specs.Resolution.{Reading, Found, column_found, table_named, reading_of}
+use Rattle.rt_policy.specs.declared.meaning.Found.{Found}
+use Rattle.rt_policy.specs.Resolution.{Reading, column_found, table_read}
 
 -- a table that an EXISTS reads, and the columns of it that the EXISTS names
 pub record TableReading : Type 0 where
@@ -47,6 +48,14 @@ abbrev pub listed : {A : Type 0} → Option A → List A
 listed None = []
 listed (Some x) = x ∷ []
 
+abbrev pub readings_within : Option Named → List TableReading
+readings_within None = []
+readings_within (Some n) = n.readings
+
+-- a subquery's own reading, then those of the subqueries in its condition
+abbrev pub readings_at : Scope → Selected → Option Named → Option Reading → List TableReading
+readings_at scope selects condition r = listed (option_map (reading_named scope selects condition) r) ++ readings_within condition
+
 abbrev pub named_step : Scope → Expr-F Named → Named
 named_step scope (Expr-F.Literal l) = nothing_named
 named_step scope (Expr-F.Cast l t) = nothing_named
@@ -62,8 +71,11 @@ named_step scope (Expr-F.And all) = all_named all
 named_step scope (Expr-F.Or all) = all_named all
 named_step scope (Expr-F.Is negated asked a) = a
 named_step scope (Expr-F.Exists selects schema table alias condition) =
-    record { columns = λ at. []; readings = listed (option_map (λ t. reading_named scope selects condition (reading_of alias t)) (table_named scope schema table)) }
+    record { columns = λ at. []; readings = readings_at scope selects condition (table_read scope schema table alias) }
+
+abbrev pub named_in : Scope → Expr → Named
+named_in scope = fold-Expr Named (named_step scope)
 
 -- the subqueries of an expression, in the order in which they stand
 unfoldable pub readings_of : Scope → Expr → List TableReading
-readings_of scope e = (fold-Expr Named (named_step scope) e).readings
+readings_of scope e = (named_in scope e).readings
