@@ -1,11 +1,15 @@
 -- The tables that an expression's subqueries read, each with the columns that it names of it.
-use Rattle.std.specs.Prelude.{ℕ, if◌then◌else◌, List, [], ◌∷◌, ◌++◌, length, Option, Some, None, option_map}
+use Rattle.std.specs.Prelude.{◌≡◌, ℕ, if◌then◌else◌, List, [], ◌∷◌, ◌++◌, length, Option, Some, None, option_map}
 use Rattle.std.specs.List.{flat_map, range_with_len}
 use Rattle.rt_policy.specs.declared.expr.Selected.{Selected}
 use Rattle.rt_policy.specs.declared.expr.Selected.TheVariants.{One, All, Column as OfColumn}
 use Rattle.rt_policy.specs.declared.expr.Expr.{Expr}
 use Rattle.rt_policy.specs.declared.expr.Expr.TheOpen.{Expr-F}
-use Rattle.rt_policy.specs.declared.expr.Expr.TheFolds.{fold-Expr}
+use Rattle.rt_policy.specs.declared.expr.Expr.TheViews.{roll-Expr}
+use Rattle.rt_policy.specs.declared.expr.Expr.TheFolds.{fold-Expr, map-Expr}
+use Rattle.rt_policy.specs.declared.judge.Judge.{Judge}
+use Rattle.rt_policy.specs.declared.judge.Judge.TheOpen.{Judge-F}
+use Rattle.rt_policy.specs.declared.judge.Judge.TheFolds.{fold-Judge}
 use Rattle.rt_policy.specs.declared.scope.Scope.{Scope}
 use Rattle.rt_policy.specs.declared.meaning.Found.{Found}
 use Rattle.rt_policy.specs.Resolution.{Reading, column_found, table_read}
@@ -79,3 +83,27 @@ named_in scope = fold-Expr Named (named_step scope)
 -- the subqueries of an expression, in the order in which they stand
 unfoldable pub readings_of : Scope → Expr → List TableReading
 readings_of scope e = (named_in scope e).readings
+
+-- each expression names what its form says of what its parts name
+abbrev pub IsNaming : Scope → (Expr → Named) → Type 0
+IsNaming scope named = (form : Expr-F Expr) → named (roll-Expr form) ≡ named_step scope (map-Expr Expr Named named form)
+
+-- one level of a judge, with the tables that the EXISTS in each part read
+abbrev pub tables_step : Judge-F (List ℕ) → List ℕ
+tables_step (Judge-F.Literal v) = []
+tables_step (Judge-F.Outer n) = []
+tables_step (Judge-F.Inner n) = []
+tables_step Judge-F.Uid = []
+tables_step Judge-F.Role = []
+tables_step (Judge-F.Claim n) = []
+tables_step (Judge-F.Compare op a b) = a ++ b
+tables_step (Judge-F.OneOf a all) = a ++ flat_map (λ t. t) all
+tables_step (Judge-F.Not a) = a
+tables_step (Judge-F.And all) = flat_map (λ t. t) all
+tables_step (Judge-F.Or all) = flat_map (λ t. t) all
+tables_step (Judge-F.Is asked a) = a
+tables_step (Judge-F.Exists t c) = t ∷ c
+
+-- the tables that the EXISTS of a judge read, in the order in which they stand
+abbrev pub tables_of : Judge → List ℕ
+tables_of = fold-Judge (List ℕ) tables_step

@@ -1,6 +1,6 @@
 -- What an expression means on a table: its names looked up, its constants read, and its kinds going together (PostgreSQL, "Type Conversion";
 -- the groups are this project's profile).
-use Rattle.std.specs.Prelude.{ℕ, ◌==◌, ℤ, pos, neg_ℤ, Bool, true, false, ◌&&◌, ◌||◌, not, if◌then◌else◌, List, [], ◌∷◌, ◌++◌, map, codes, slice_get, Option, Some, None, option_map, unwrap_or, find, Result, Ok, Err}
+use Rattle.std.specs.Prelude.{◌≡◌, ℕ, ◌==◌, ℤ, pos, neg_ℤ, Bool, true, false, ◌&&◌, ◌||◌, not, if◌then◌else◌, List, [], ◌∷◌, ◌++◌, map, codes, slice_get, Option, Some, None, option_map, unwrap_or, find, Result, Ok, Err}
 use Rattle.std.specs.List.{list_any, list_all, filter_map, enumerate_from}
 use Rattle.std.specs.Str.{bytes_eq}
 use Rattle.rt_value.specs.declared.value.Value.{Value}
@@ -28,7 +28,8 @@ use Rattle.rt_policy.specs.declared.expr.Selected.TheVariants as selected
 use Rattle.rt_policy.specs.declared.expr.TypeName.{TypeName}
 use Rattle.rt_policy.specs.declared.expr.Expr.{Expr}
 use Rattle.rt_policy.specs.declared.expr.Expr.TheOpen.{Expr-F}
-use Rattle.rt_policy.specs.declared.expr.Expr.TheFolds.{fold-Expr}
+use Rattle.rt_policy.specs.declared.expr.Expr.TheViews.{roll-Expr}
+use Rattle.rt_policy.specs.declared.expr.Expr.TheFolds.{fold-Expr, map-Expr}
 use Rattle.rt_policy.specs.declared.scope.Scope.{Scope}
 use Rattle.rt_policy.specs.declared.scope.TableView.{TableView}
 use Rattle.rt_policy.specs.declared.scope.ColumnView.{ColumnView}
@@ -280,6 +281,12 @@ meaning_step scope (Expr-F.Exists selects schema table alias condition) at =
 
 abbrev pub meaning_in : Scope → Expr → Option Reading → Meaning
 meaning_in scope = fold-Expr (Option Reading → Meaning) (meaning_step scope)
+
+-- each expression means what its form says of the meanings of its parts
+abbrev pub IsMeaning : Scope → (Expr → Option Reading → Meaning) → Type 0
+IsMeaning scope mean =
+    (form : Expr-F Expr) (at : Option Reading) →
+    mean (roll-Expr form) at ≡ meaning_step scope (map-Expr Expr (Option Reading → Meaning) mean form) at
 
 abbrev pub as_condition : Meaning → Result Judge ExprFault
 as_condition meaning.Unnamed = Err UnknownName
