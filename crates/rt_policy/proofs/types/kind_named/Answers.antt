@@ -11,11 +11,58 @@ returns-in_default c =
     let other = c.in_default in
     let shown = unwrap_or (beside name opaque_names) name in
     let kind = λ (found : Option TypeMeaning). (unwrap_or found (type_of Opaque shown)).kind in
-    sym (ap kind (none_beside name kind_names (
-    (other.not-smallint, (other.not-smallserial, (other.not-int2,
-    (other.not-integer, (other.not-int, (other.not-serial, (other.not-int4,
-    (other.not-bigint, (other.not-bigserial, (other.not-int8,
-    (other.not-text, (other.not-varchar, (other.not-boolean,
-    (other.not-bool, (other.not-uuid, (other.not-timestamptz,
-    (other.not-json, (other.not-jsonb,
-    tt)))))))))))))))))))))
+    sym (ap kind (none_beside name kind_names ((
+      other.not-smallint,
+      (
+        other.not-smallserial,
+        (
+          other.not-int2,
+          (
+            other.not-integer,
+            (
+              other.not-int,
+              (
+                other.not-serial,
+                (
+                  other.not-int4,
+                  (
+                    other.not-bigint,
+                    (
+                      other.not-bigserial,
+                      (
+                        other.not-int8,
+                        (
+                          other.not-text,
+                          (
+                            other.not-varchar,
+                            (
+                              other.not-boolean,
+                              (
+                                other.not-bool,
+                                (
+                                  other.not-uuid,
+                                  (
+                                    other.not-timestamptz,
+                                    (
+                                      other.not-json,
+                                      (
+                                        other.not-jsonb,
+                                        tt,
+                                      ),
+                                    ),
+                                  ),
+                                ),
+                              ),
+                            ),
+                          ),
+                        ),
+                      ),
+                    ),
+                  ),
+                ),
+              ),
+            ),
+          ),
+        ),
+      ),
+    ))))
