@@ -1,4 +1,5 @@
 pub mod Grammar
+pub mod InnerTable
 pub mod Joining
 pub mod Lent
 pub mod Parse

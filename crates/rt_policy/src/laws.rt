@@ -1,15 +1,19 @@
 //! Laws of the definitions, for the proofs of the crates above. Each is a function with an empty
 //! body.
 
-ghost use Rattle.std.specs.Prelude.{◌≡◌, ℕ, List};
+ghost use Rattle.std.specs.Prelude.{◌≡◌, ℕ, List, Option, Ok, map};
 ghost use Rattle.rt_value.specs.declared.row.Row.{Row};
 ghost use Rattle.rt_policy.specs.declared.caller.Seen.{Seen};
+ghost use Rattle.rt_policy.specs.declared.expr.Expr.{Expr as Written};
 ghost use Rattle.rt_policy.specs.declared.judge.Judge.{Judge};
+ghost use Rattle.rt_policy.specs.declared.meaning.Meaning.{Meaning};
 ghost use Rattle.rt_value.specs.declared.value.Value.{Value};
 ghost use Rattle.rt_policy.specs.Worth.{Who, View, Place, IsWorth, worth};
 ghost use Rattle.rt_policy.specs.Visibility.{visibility, IsVisibility};
+ghost use Rattle.rt_policy.specs.Resolution.{Reading, IsMeaning, meaning_in, resolved};
+ghost use Rattle.rt_policy.specs.Readings.{Named, IsNaming, named_in, readings_of, tables_of};
 
-use crate::Rules;
+use crate::{Expr, Rules, Scope};
 
 /// The value of an expression is what its form says of the values of its parts.
 pub fn worth_by_forms()
@@ -29,4 +33,26 @@ pub fn visible_by_policies(rules: &Rules)
     ensures only { (who : Who) (rows : ℕ → List Row) (seen : ℕ → Row → Seen) →
         IsVisibility rules.now.tables who rows seen →
         (table : ℕ) (row : Row) → seen table row ≡ visibility rules.now.tables who rows table row }
+{}
+
+/// The meaning of an expression is what its form says of the meanings of its parts.
+pub fn meaning_by_forms(scope: &Scope)
+    ensures rule { IsMeaning scope.now (meaning_in scope.now) }
+    // Nothing else meets that rule.
+    ensures only { (mean : Written → Option Reading → Meaning) → IsMeaning scope.now mean →
+        (e : Written) (at : Option Reading) → mean e at ≡ meaning_in scope.now e at }
+{}
+
+/// What an expression names is what its form says of what its parts name.
+pub fn naming_by_forms(scope: &Scope)
+    ensures rule { IsNaming scope.now (named_in scope.now) }
+    // Nothing else meets that rule.
+    ensures only { (named : Written → Named) → IsNaming scope.now named →
+        (e : Written) → named e ≡ named_in scope.now e }
+{}
+
+/// The EXISTS of a resolved expression read the tables of its readings, in their order.
+pub fn tables_are_read(scope: &Scope, expr: &Expr)
+    ensures { (judge : Judge) → resolved scope.now expr.now ≡ Ok judge →
+        tables_of judge ≡ map (λ r. r.table) (readings_of scope.now expr.now) }
 {}
