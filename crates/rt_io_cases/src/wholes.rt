@@ -48,9 +48,9 @@ pub fn written(alloc: Global, words: &[&str]) -> io::Result<String> {
 }
 
 fn size(word: &str) -> io::Result<usize> {
-    match word.parse::<usize>() {
-        Ok(size) => Ok(size),
-        Err(_) => Err(io::ErrorKind::InvalidInput.into()),
+    match word.parse::<usize>().ok() {
+        Some(size) => Ok(size),
+        None => Err(io::ErrorKind::InvalidInput.into()),
     }
 }
 
@@ -58,9 +58,9 @@ fn size(word: &str) -> io::Result<usize> {
 fn calls(alloc: Global, words: &[&str]) -> io::Result<List<u64>> {
     let mut calls = Vec::new(alloc);
     for word in words {
-        match word.parse::<u64>() {
-            Ok(call) => calls.push(call)?,
-            Err(_) => return Err(io::ErrorKind::InvalidInput.into()),
+        match word.parse::<u64>().ok() {
+            Some(call) => calls.push(call)?,
+            None => return Err(io::ErrorKind::InvalidInput.into()),
         }
     }
     Ok(List::new(calls))
