@@ -31,7 +31,7 @@ struct Parts<'a> {
     slot: u8,
     claims: &'a str,
     frame: &'a str,
-    record: &'a str,
+    line: &'a str,
 }
 
 /// What stands before and behind the first byte of a kind.
@@ -126,13 +126,13 @@ fn lines_of(text: &str) -> Option<Lines<'_>>
 fn parts_of(text: &str) -> Option<Parts<'_>>
     ensures { MatchOption result ((slot : ℕ) (claims frame entry : List ℕ)
         → AreParts text.now slot claims frame entry → ⊥)
-        (λ parts. AreParts text.now parts.slot parts.claims.now parts.frame.now parts.record.now) }
+        (λ parts. AreParts text.now parts.slot parts.claims.now parts.frame.now parts.line.now) }
 {
     let lines = lines_of(text)?;
     let (slot, version) = slot_and_rest(lines.opening, "open ")?;
     let claims = behind(version, "1.0.0 ")?;
     let (framed, frame) = slot_and_rest(lines.frame, "frame ")?;
-    let record = behind(lines.wal, "wal ")?;
+    let line = behind(lines.wal, "wal ")?;
     if framed != slot {
         return None;
     }
@@ -143,7 +143,7 @@ fn parts_of(text: &str) -> Option<Parts<'_>>
         slot,
         claims,
         frame,
-        record,
+        line,
     })
 }
 
@@ -179,14 +179,14 @@ fn are_claims(alloc: Global, claims: &str, role: &str) -> Result<(), FormFault>
 /// The script of these parts, for the table and the role of the catalogue.
 fn script_of(alloc: Global, catalogue: &Catalogue, parts: Parts<'_>) -> Result<Script, FormFault>
     ensures found { let p = parts.entry in IfOk result (λ script.
-        AreSaid catalogue.now p.slot p.claims.now p.frame.now p.record.now script) }
+        AreSaid catalogue.now p.slot p.claims.now p.frame.now p.line.now script) }
     ensures only { let p = parts.entry in (script : script.Script)
-        → AreSaid catalogue.now p.slot p.claims.now p.frame.now p.record.now script
+        → AreSaid catalogue.now p.slot p.claims.now p.frame.now p.line.now script
         → MatchResult result (λ found. found ≡ script) (λ fault. fault ≡ FormFault.NoMemory) }
 {
     are_claims(alloc, parts.claims, catalogue.role.get())?;
     let join = join_of(alloc, parts.frame, catalogue.table.name.get())?;
-    let row = inserted_row(alloc, parts.record, &catalogue.table)?;
+    let row = inserted_row(alloc, parts.line, &catalogue.table)?;
     let slot = parts.slot;
     Ok(Script { slot, join, row })
 }

@@ -21,9 +21,9 @@ pub returns-in_err-framed : goal.returns-in_err-framed
 returns-in_err-framed c = rw c.from_residual-in_err-framed.ensures (λ slot claims frame entry h.
     let s = same_lines c.in_ok-lines.ensures h.1 in c.in_err-framed.ensures slot frame h.0 s.1)
 
-pub returns-in_err-record : goal.returns-in_err-record
-returns-in_err-record c = rw c.from_residual-in_err-record.ensures (λ slot claims frame entry h.
-    let s = same_lines c.in_ok-lines.ensures h.1 in c.in_err-record.ensures entry s.2)
+pub returns-in_err-line : goal.returns-in_err-line
+returns-in_err-line c = rw c.from_residual-in_err-line.ensures (λ slot claims frame entry h.
+    let s = same_lines c.in_ok-lines.ensures h.1 in c.in_err-line.ensures entry s.2)
 
 pub returns-then-framed-slot : goal.returns-then-framed-slot
 returns-then-framed-slot c = λ slot claims frame entry h.
