@@ -13,7 +13,10 @@ use std::io::{self, BufRead, BufReader, BufWriter, Write};
 ///
 /// `InvalidData`: it is no UTF-8.
 pub fn text_of(case: &[u8]) -> io::Result<&str> {
-    str::from_utf8(case).map_err(|_| io::ErrorKind::InvalidData.into())
+    match str::from_utf8(case) {
+        Ok(text) => Ok(text),
+        Err(_) => Err(io::ErrorKind::InvalidData.into()),
+    }
 }
 
 /// Prints the answer to each line of standard input, a line each.

@@ -5,8 +5,6 @@ mod fault;
 mod places;
 mod replaying;
 mod status;
-#[cfg(test)]
-mod tests;
 mod words;
 
 use places::open_script;

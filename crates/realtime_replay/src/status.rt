@@ -7,7 +7,7 @@ use crate::fault::RunFault;
 use std::io::{Error, ErrorKind};
 
 /// How a run ended. The number is the program's exit status.
-#[derive(Clone, Copy, Debug, PartialEq, Eq)]
+#[derive(Clone, Copy)]
 pub enum Status {
     /// The whole script ran, and the output was written.
     Ok = 0,

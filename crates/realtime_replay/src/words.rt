@@ -4,7 +4,7 @@ ghost use Rattle.realtime_replay.specs.Words.{IsCommand, NoCommand, is_option};
 use rt_form::number_of;
 
 /// What the program can be asked for.
-#[derive(Clone, Copy, Debug, PartialEq, Eq)]
+#[derive(Clone, Copy)]
 pub enum Command {
     /// `replay CATALOGUE SCRIPT`: what each slot was given.
     Replay,

@@ -2,7 +2,8 @@
 use Rattle.std.proofs.Common.{◌≡◌, ◌≢◌, ℕ, Bool, true, false, List, [], ◌∷◌, codes, refl, ap, sym, ◌∙◌, arith}
 use Rattle.std.specs.Prelude.{slice_index}
 use Rattle.rt_form.specs.Messages.{shown_type}
-use Rattle.rt_form.specs.Statements.{AreNamed, all_words, column_words, columns_words, grant_words, key_words, role_words}
+use Rattle.rt_form.specs.Statements.{AreNamed, all_words, column_words, columns_words, grant_words, key_words}
+use Rattle.rt_form.specs.Statements.{role_words}
 use Rattle.rt_form.specs.Statements.{table_words}
 use Rattle.rt_form.specs.declared.catalogue.ColumnType.{ColumnType}
 use Rattle.rt_form.specs.declared.catalogue.ColumnType.TheVariants as t
@@ -83,7 +84,8 @@ grant_of e f g = rw (e, f) g
 
 -- the words of the three statements, one behind the other
 pub all_of : {words granting granted : List (List ℕ)} (rest : List (List ℕ)) (m a b r x y : List ℕ) (s t : ColumnType)
-    (k : Bool) → words ≡ table_words m a s b t k granting → granting ≡ role_words r granted → granted ≡ grant_words x y rest
+    (k : Bool) → words ≡ table_words m a s b t k granting → granting ≡ role_words r granted
+    → granted ≡ grant_words x y rest
     → x ≡ m → y ≡ r → rest ≡ [] → words ≡ all_words m a s b t k r
 all_of rest m a b r x y s t k e f g table role none =
     e ∙ ap (table_words m a s b t k) (f ∙ ap (role_words r) (g ∙ ap (λ n. grant_words n y rest) table

@@ -32,7 +32,8 @@ pub record AreWords (text : List ℕ) (words : List (List ℕ)) : Type 0 where
 -- words of expressions, which are no names
 abbrev pub reserved : List (List ℕ)
 reserved =
-    codes "and" ∷ codes "or" ∷ codes "not" ∷ codes "in" ∷ codes "is" ∷ codes "null" ∷ codes "true" ∷ codes "false" ∷ codes "exists" ∷ codes "select"
+    codes "and" ∷ codes "or" ∷ codes "not" ∷ codes "in" ∷ codes "is" ∷ codes "null" ∷ codes "true" ∷ codes "false"
+    ∷ codes "exists" ∷ codes "select"
     ∷ codes "from" ∷ codes "where" ∷ []
 
 -- the most bytes of a name

@@ -1,5 +1,6 @@
 -- The script of the first path, as its text is written: four lines, each with the tree that it has to be.
-use Rattle.std.specs.Prelude.{◌≡◌, ◌≢◌, ℕ, ◌==◌, ◌≤◌, ◌<◌, nat_le, Bool, true, false, ◌&&◌, IsUtf8, List, [], ◌∷◌, ◌++◌, codes, length, slice_get, slice_index, Some}
+use Rattle.std.specs.Prelude.{◌≡◌, ◌≢◌, ℕ, ◌==◌, ◌≤◌, ◌<◌, nat_le, Bool, true, false, ◌&&◌, IsUtf8, List, [], ◌∷◌, ◌++◌}
+use Rattle.std.specs.Prelude.{codes, length, slice_get, slice_index, Some}
 use Rattle.std.specs.Char.{is_ascii_digit}
 use Rattle.std.specs.Fmt.{decimal}
 use Rattle.std.specs.List.{list_all}
@@ -49,7 +50,8 @@ pub record AreLines (text open_ frame wal poll : List ℕ) : Type 0 where
 abbrev pub AreParts : List ℕ → ℕ → List ℕ → List ℕ → List ℕ → Type 0
 AreParts text slot claims frame line =
     (slot ≤ 255)
-    × AreLines text (slot_line (codes "open ") slot (codes "1.0.0 " ++ claims)) (slot_line (codes "frame ") slot frame) (codes "wal " ++ line) (codes "poll")
+    × AreLines text (slot_line (codes "open ") slot (codes "1.0.0 " ++ claims)) (slot_line (codes "frame ") slot frame)
+    (codes "wal " ++ line) (codes "poll")
 
 -- the one member of the claims names the role
 abbrev pub claims_tree : List ℕ → Json
@@ -67,7 +69,8 @@ abbrev pub bindings_tree : List ℕ → Json
 bindings_tree table = j.List (j.Object (wanted_binding table) ∷ [])
 
 abbrev pub config_tree : List ℕ → Json
-config_tree table = j.Object (field (codes "presence") presence_tree ∷ field (codes "postgres_changes") (bindings_tree table) ∷ [])
+config_tree table = j.Object (field (codes "presence") presence_tree
+    ∷ field (codes "postgres_changes") (bindings_tree table) ∷ [])
 
 abbrev pub payload_tree : List ℕ → Json
 payload_tree table = j.Object (field (codes "config") (config_tree table) ∷ [])
@@ -75,7 +78,8 @@ payload_tree table = j.Object (field (codes "config") (config_tree table) ∷ []
 -- a frame that joins
 abbrev pub frame_tree : Json → Json → Json → Json
 frame_tree topic payload reference =
-    j.Object (field (codes "topic") topic ∷ field (codes "event") (Text (codes "phx_join")) ∷ field (codes "payload") payload ∷ field (codes "ref") reference ∷ [])
+    j.Object (field (codes "topic") topic ∷ field (codes "event") (Text (codes "phx_join"))
+    ∷ field (codes "payload") payload ∷ field (codes "ref") reference ∷ [])
 
 abbrev pub join_tree : List ℕ → List ℕ → List ℕ → Json
 join_tree topic reference table = frame_tree (Text topic) (payload_tree table) (Text reference)
@@ -119,7 +123,8 @@ fits _ _ = false
 -- a column's value; what is said of its type is passed over
 pub record IsField (column : Column) (tree value : Json) : Type 0 where
   pub kind : Json
-  pub is : tree ≡ j.Object (field (codes "name") (Text column.name) ∷ field (codes "type") kind ∷ field (codes "value") value ∷ [])
+  pub is : tree ≡ j.Object (field (codes "name") (Text column.name) ∷ field (codes "type") kind
+      ∷ field (codes "value") value ∷ [])
   pub of_type : fits column.column_type value ≡ true
 
 -- the values of both columns, in order
@@ -141,7 +146,8 @@ IsKey key tree = HasKeyName tree (Text key.name)
 -- an insert into a table of this name: its members, in this order
 abbrev pub insert_tree : List ℕ → Json → Json → Json
 insert_tree table fields keys =
-    j.Object (field (codes "action") (Text (codes "I")) ∷ field (codes "schema") (Text (codes "public")) ∷ field (codes "table") (Text table)
+    j.Object (field (codes "action") (Text (codes "I")) ∷ field (codes "schema") (Text (codes "public"))
+    ∷ field (codes "table") (Text table)
     ∷ field (codes "columns") fields ∷ field (codes "pk") keys ∷ [])
 
 pub record IsInsertTree (table : List ℕ) (first second key : Column) (tree one two : Json) : Type 0 where
@@ -153,7 +159,8 @@ pub record IsInsertTree (table : List ℕ) (first second key : Column) (tree one
 
 -- the two columns of a table, and its key's
 abbrev pub HasColumns : Table → Column → Column → Column → Type 0
-HasColumns table first second key = (table.columns ≡ first ∷ second ∷ []) × (slice_get table.columns table.key ≡ Some key)
+HasColumns table first second key = (table.columns ≡ first ∷ second ∷ [])
+    × (slice_get table.columns table.key ≡ Some key)
 
 -- the tree inserts the row, a value for each column
 pub record IsRow (table : List ℕ) (first second key : Column) (tree : Json) (row : List Json) : Type 0 where

@@ -1,4 +1,5 @@
--- The catalogue of the first path, as its text is written: three statements. The words of each part are followed by the others, its last argument.
+-- The catalogue of the first path, as its text is written: three statements. The words of each part are followed by the
+-- others, its last argument.
 use Rattle.std.specs.Prelude.{◌≡◌, ◌≢◌, ℕ, Bool, true, false, not, List, [], ◌∷◌, codes}
 use Rattle.rt_form.specs.Lexing.{AreWords, is_name}
 use Rattle.rt_form.specs.Messages.{shown_type}
@@ -22,7 +23,8 @@ columns_words first first_type second second_type is_key rest =
 -- create table NAME (NAME TYPE, NAME TYPE);
 abbrev pub table_words : List ℕ → List ℕ → ColumnType → List ℕ → ColumnType → Bool → List (List ℕ) → List (List ℕ)
 table_words table first first_type second second_type is_key rest =
-    codes "create" ∷ codes "table" ∷ table ∷ codes "(" ∷ columns_words first first_type second second_type is_key (codes ";" ∷ rest)
+    codes "create" ∷ codes "table" ∷ table ∷ codes "("
+    ∷ columns_words first first_type second second_type is_key (codes ";" ∷ rest)
 
 -- create role NAME;
 abbrev pub role_words : List ℕ → List (List ℕ) → List (List ℕ)
@@ -45,7 +47,8 @@ abbrev pub IsRole : List ℕ → Type 0
 IsRole role = (is_name role ≡ true) × (role ≢ codes "public")
 
 -- the words are the statements with these names, the second column being the key or else the first
-pub record AreNamed (words : List (List ℕ)) (table first : List ℕ) (first_type : ColumnType) (second : List ℕ) (second_type : ColumnType) (is_key : Bool) (role : List ℕ) : Type 0 where
+pub record AreNamed (words : List (List ℕ)) (table first : List ℕ) (first_type : ColumnType) (second : List ℕ)
+    (second_type : ColumnType) (is_key : Bool) (role : List ℕ) : Type 0 where
   pub are : words ≡ all_words table first first_type second second_type is_key role
   pub table_is : is_name table ≡ true
   pub columns_are : AreColumns first second
@@ -56,7 +59,8 @@ abbrev pub key_place : Bool → ℕ
 key_place true = 1
 key_place false = 0
 
--- The words are the three statements of a catalogue: a table of two columns with one key column, a role, and the grant of that table to that role.
+-- The words are the three statements of a catalogue: a table of two columns with one key column, a role, and the grant
+-- of that table to that role.
 pub record AreStatements (words : List (List ℕ)) (c : Catalogue) : Type 0 where
   pub first : Column
   pub second : Column

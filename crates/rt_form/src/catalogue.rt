@@ -1,7 +1,7 @@
 use rt_value::{List, Text};
 
 /// The type of a column of the first path.
-#[derive(Clone, Copy, Debug, PartialEq, Eq)]
+#[derive(Clone, Copy)]
 pub enum ColumnType {
     /// `int4`, a whole number of 32 bits.
     Int4,
@@ -10,7 +10,7 @@ pub enum ColumnType {
 }
 
 /// A column of the table.
-#[derive(Debug, Drop)]
+#[derive(Drop)]
 pub struct Column {
     /// The column's name.
     pub name: Text,
@@ -19,7 +19,7 @@ pub struct Column {
 }
 
 /// A table of the schema `public`.
-#[derive(Debug, Drop)]
+#[derive(Drop)]
 pub struct Table {
     /// The table's name.
     pub name: Text,
@@ -30,7 +30,7 @@ pub struct Table {
 }
 
 /// One table, and the role that may read it.
-#[derive(Debug, Drop)]
+#[derive(Drop)]
 pub struct Catalogue {
     /// The table.
     pub table: Table,

@@ -85,6 +85,5 @@ pub fn read_catalogue(alloc: Global, bytes: &[u8]) -> Result<Catalogue, FormFaul
         return Err(FormFault::NotBuilt);
     };
     let words = words_of(alloc, text)?;
-    let catalogue = catalogue_of(alloc, words.as_slice())?;
-    Ok(catalogue)
+    Ok(catalogue_of(alloc, words.as_slice())?)
 }

@@ -1,5 +1,6 @@
-//! The first form of a catalogue and a script: one table, one role, one socket that joins, one insert, one poll. Its two texts
-//! are read, and the three messages that are due by it are made and printed.
+//! The first form of a catalogue and a script: one table, one role, one socket that joins, one
+//! insert, one poll. Its two texts are read, and the three messages that are due by it are made and
+//! printed.
 #![tactic(auto)]
 
 mod catalogue;
@@ -15,7 +16,6 @@ mod script;
 mod script_text;
 mod shapes;
 mod statements;
-mod trees;
 
 pub use catalogue::{Catalogue, Column, ColumnType, Table};
 pub use catalogue_text::read_catalogue;

@@ -2,8 +2,8 @@
 ghost use Rattle.std.specs.Prelude.{◌≡◌, ◌++◌, ◌∷◌, [], IfOk, OnOk, map};
 ghost use Rattle.rt_form.specs.Messages as spec;
 
-use crate::trees::{list_tree, number_tree, object_tree, put, put_text, text_tree};
 use crate::{Column, ColumnType, Table};
+use rt_json::building::{list_tree, number_tree, object_tree, put, put_text, text_tree};
 use rt_json::{Json, Member};
 use std::alloc::{AllocError, Global};
 
@@ -34,7 +34,7 @@ fn put_binding(alloc: Global, members: &mut Vec<Member>, table: &str) -> Result<
     put_text(alloc, members, "table", table)
 }
 
-fn accepted_binding(alloc: Global, id: u32, table: &str) -> Result<Json, AllocError>
+fn accepted_binding(alloc: Global, id: u64, table: &str) -> Result<Json, AllocError>
     ensures { IfOk result (λ tree. tree ≡ spec.accepted_binding id table.now) }
 {
     let mut members = Vec::new(alloc);

@@ -12,7 +12,8 @@ pub struct Join {
     pub reference: Text,
 }
 
-/// The script of the first path: a slot opens and joins a channel, a row is inserted, the stream is polled.
+/// The script of the first path: a slot opens and joins a channel, a row is inserted, the stream is
+/// polled.
 #[derive(Drop)]
 pub struct Script {
     /// The slot that opens.

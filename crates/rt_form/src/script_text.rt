@@ -2,8 +2,8 @@ ghost use Rattle.std.specs.Prelude.{◌≡◌, ◌↔◌, ◌++◌, ◌∷◌, �
 ghost use Rattle.std.specs.Prelude.{IsTrue, MatchOption, MatchResult, OnOk};
 ghost use Rattle.std.specs.Fmt.{decimal};
 ghost use Rattle.rt_wal.specs.Records.{without_last};
-ghost use Rattle.rt_form.specs.Script.{AreEnded, AreLines, AreParts, AreSaid, IsClaims, IsScript, Lacks};
-ghost use Rattle.rt_form.specs.Script.{claims_tree, slot_line};
+ghost use Rattle.rt_form.specs.Script.{AreEnded, AreLines, AreParts, AreSaid, IsClaims, IsScript};
+ghost use Rattle.rt_form.specs.Script.{Lacks, claims_tree, slot_line};
 ghost use Rattle.rt_form.specs.declared.script.Script as script;
 
 use crate::fault::FormFault;
@@ -15,6 +15,24 @@ use crate::{Catalogue, Script};
 use rt_json::Json;
 use rt_value::List;
 use std::alloc::Global;
+
+/// The four lines of a script.
+#[derive(Clone, Copy)]
+struct Lines<'a> {
+    opening: &'a str,
+    frame: &'a str,
+    wal: &'a str,
+    poll: &'a str,
+}
+
+/// What the lines of a script say.
+#[derive(Clone, Copy)]
+struct Parts<'a> {
+    slot: u8,
+    claims: &'a str,
+    frame: &'a str,
+    line: &'a str,
+}
 
 /// What stands before and behind the first byte of a kind.
 fn cut(text: &str, byte: char) -> Option<(&str, &str)>
@@ -57,17 +75,22 @@ fn slot_and_rest<'a>(line: &'a str, word: &str) -> Option<(u8, &'a str)>
 }
 
 /// Four parts of a text, each with an LF behind it, and nothing behind them.
-fn ended_lines(text: &str) -> Option<(&str, &str, &str, &str)>
+fn ended_lines(text: &str) -> Option<Lines<'_>>
     ensures { MatchOption result ((opening frame wal poll : List ℕ)
         → AreEnded text.now opening frame wal poll → ⊥)
-        (λ lines. AreEnded text.now lines.0.now lines.1.now lines.2.now lines.3.now) }
+        (λ lines. AreEnded text.now lines.opening.now lines.frame.now lines.wal.now lines.poll.now) }
 {
     let (opening, rest) = cut(text, '\n')?;
     let (frame, rest) = cut(rest, '\n')?;
     let (wal, rest) = cut(rest, '\n')?;
     let (poll, rest) = cut(rest, '\n')?;
     if rest.is_empty() {
-        Some((opening, frame, wal, poll))
+        Some(Lines {
+            opening,
+            frame,
+            wal,
+            poll,
+        })
     } else {
         None
     }
@@ -83,39 +106,45 @@ fn without_cr(line: &str) -> &str
     }
 }
 
-/// The four lines of a text, each ended by LF, and nothing behind them. A CR before an LF is no part of a line.
-fn lines_of(text: &str) -> Option<(&str, &str, &str, &str)>
+/// The four lines of a text, each ended by LF, and nothing behind them. A CR before an LF is no
+/// part of a line.
+fn lines_of(text: &str) -> Option<Lines<'_>>
     ensures { MatchOption result ((opening frame wal poll : List ℕ)
         → AreLines text.now opening frame wal poll → ⊥)
-        (λ lines. AreLines text.now lines.0.now lines.1.now lines.2.now lines.3.now) }
+        (λ lines. AreLines text.now lines.opening.now lines.frame.now lines.wal.now lines.poll.now) }
 {
-    let (opening, frame, wal, poll) = ended_lines(text)?;
-    Some((
-        without_cr(opening),
-        without_cr(frame),
-        without_cr(wal),
-        without_cr(poll),
-    ))
+    let lines = ended_lines(text)?;
+    Some(Lines {
+        opening: without_cr(lines.opening),
+        frame: without_cr(lines.frame),
+        wal: without_cr(lines.wal),
+        poll: without_cr(lines.poll),
+    })
 }
 
 /// The slot, the claims, the frame and the record of a text's lines.
-fn parts_of(text: &str) -> Option<(u8, &str, &str, &str)>
+fn parts_of(text: &str) -> Option<Parts<'_>>
     ensures { MatchOption result ((slot : ℕ) (claims frame entry : List ℕ)
         → AreParts text.now slot claims frame entry → ⊥)
-        (λ parts. AreParts text.now parts.0 parts.1.now parts.2.now parts.3.now) }
+        (λ parts. AreParts text.now parts.slot parts.claims.now parts.frame.now parts.line.now) }
 {
-    let (opening, frame, wal, poll) = lines_of(text)?;
-    let (slot, version) = slot_and_rest(opening, "open ")?;
+    let lines = lines_of(text)?;
+    let (slot, version) = slot_and_rest(lines.opening, "open ")?;
     let claims = behind(version, "1.0.0 ")?;
-    let (framed, frame) = slot_and_rest(frame, "frame ")?;
-    let record = behind(wal, "wal ")?;
+    let (framed, frame) = slot_and_rest(lines.frame, "frame ")?;
+    let line = behind(lines.wal, "wal ")?;
     if framed != slot {
         return None;
     }
-    if poll != "poll" {
+    if lines.poll != "poll" {
         return None;
     }
-    Some((slot, claims, frame, record))
+    Some(Parts {
+        slot,
+        claims,
+        frame,
+        line,
+    })
 }
 
 fn has_backslash(text: &str) -> bool
@@ -148,23 +177,17 @@ fn are_claims(alloc: Global, claims: &str, role: &str) -> Result<(), FormFault>
 }
 
 /// The script of these parts, for the table and the role of the catalogue.
-fn script_of(
-    alloc: Global,
-    catalogue: &Catalogue,
-    slot: u8,
-    claims: &str,
-    frame: &str,
-    line: &str,
-) -> Result<Script, FormFault>
-    ensures found { IfOk result
-        (λ script. AreSaid catalogue.now slot claims.now frame.now line.now script) }
-    ensures only { (script : script.Script)
-        → AreSaid catalogue.now slot claims.now frame.now line.now script
+fn script_of(alloc: Global, catalogue: &Catalogue, parts: Parts<'_>) -> Result<Script, FormFault>
+    ensures found { let p = parts.entry in IfOk result (λ script.
+        AreSaid catalogue.now p.slot p.claims.now p.frame.now p.line.now script) }
+    ensures only { let p = parts.entry in (script : script.Script)
+        → AreSaid catalogue.now p.slot p.claims.now p.frame.now p.line.now script
         → MatchResult result (λ found. found ≡ script) (λ fault. fault ≡ FormFault.NoMemory) }
 {
-    are_claims(alloc, claims, catalogue.role.get())?;
-    let join = join_of(alloc, frame, catalogue.table.name.get())?;
-    let row = inserted_row(alloc, line, &catalogue.table)?;
+    are_claims(alloc, parts.claims, catalogue.role.get())?;
+    let join = join_of(alloc, parts.frame, catalogue.table.name.get())?;
+    let row = inserted_row(alloc, parts.line, &catalogue.table)?;
+    let slot = parts.slot;
     Ok(Script { slot, join, row })
 }
 
@@ -182,10 +205,7 @@ pub fn read_script(alloc: Global, catalogue: &Catalogue, bytes: &[u8]) -> Result
         return Err(FormFault::NotBuilt);
     }
     match parts_of(text) {
-        Some((slot, claims, frame, line)) => {
-            let script = script_of(alloc, catalogue, slot, claims, frame, line)?;
-            Ok(script)
-        }
+        Some(parts) => Ok(script_of(alloc, catalogue, parts)?),
         None => Err(FormFault::NotBuilt),
     }
 }

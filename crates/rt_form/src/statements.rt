@@ -75,8 +75,7 @@ fn two_words<'a>(words: &'a [Text], one: &str, two: &str) -> Option<&'a [Text]>
         (λ rest. words.now ≡ one.now ∷ two.now ∷ rest.now) }
 {
     let rest = first_word(words, one)?;
-    let rest = first_word(rest, two)?;
-    Some(rest)
+    first_word(rest, two)
 }
 
 /// The first word, which has to be a name.
@@ -249,8 +248,7 @@ fn grant<'a>(words: &'a [Text], table: &str, role: &str) -> Option<&'a [Text]>
     let behind = two_words(words, "grant", "select")?;
     let granted = two_words(behind, "on", table)?;
     let end = two_words(granted, "to", role)?;
-    let rest = first_word(end, ";")?;
-    Some(rest)
+    first_word(end, ";")
 }
 
 /// The names in the three statements.

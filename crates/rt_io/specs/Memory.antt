@@ -1,5 +1,6 @@
 -- What a source and a sink in memory are, and what one call of each does.
-use Rattle.std.specs.Prelude.{ℕ, ◌+◌, ◌-◌, ◌^◌, ◌==◌, min, Bool, ◌||◌, ◌&&◌, nat_lt, if◌then◌else◌, List, [], ◌++◌, length, take, drop}
+use Rattle.std.specs.Prelude.{ℕ, ◌+◌, ◌-◌, ◌^◌, ◌==◌, min, Bool, ◌||◌, ◌&&◌, nat_lt, if◌then◌else◌, List, [], ◌++◌}
+use Rattle.std.specs.Prelude.{length, take, drop}
 use Rattle.std.specs.List.{list_any}
 use Rattle.rt_io.specs.declared.source.Read.{Read}
 use Rattle.rt_io.specs.declared.source.Read.TheVariants as r
@@ -35,7 +36,12 @@ abbrev pub tape_after : Tape → ℕ → Tape
 tape_after tape room =
     if is_listed tape.failing tape.calls
     then record { left = tape.left; failing = tape.failing; calls = counted tape.calls; faults = counted tape.faults }
-    else record { left = drop (count_read tape room) tape.left; failing = tape.failing; calls = counted tape.calls; faults = tape.faults }
+    else record {
+      left = drop (count_read tape room) tape.left;
+      failing = tape.failing;
+      calls = counted tape.calls;
+      faults = tape.faults;
+    }
 
 -- a sink: the bytes that it took, how many it has room for in all, and as of a source
 pub record Shelf : Type 0 where
@@ -54,7 +60,8 @@ count_written shelf piece = min (length piece) (shelf.room - length shelf.held)
 
 -- a write fails where its call is listed, and where no room is left for any byte of the piece
 abbrev pub write_fails : Shelf → List ℕ → Bool
-write_fails shelf piece = is_listed shelf.failing shelf.calls || (nat_lt 0 (length piece) && (count_written shelf piece == 0))
+write_fails shelf piece = is_listed shelf.failing shelf.calls
+    || (nat_lt 0 (length piece) && (count_written shelf piece == 0))
 
 abbrev pub write_of : Shelf → List ℕ → Wrote
 write_of shelf piece = if write_fails shelf piece then w.Failed else w.Bytes (count_written shelf piece)
@@ -62,5 +69,17 @@ write_of shelf piece = if write_fails shelf piece then w.Failed else w.Bytes (co
 abbrev pub shelf_after : Shelf → List ℕ → Shelf
 shelf_after shelf piece =
     if write_fails shelf piece
-    then record { held = shelf.held; room = shelf.room; failing = shelf.failing; calls = counted shelf.calls; faults = counted shelf.faults }
-    else record { held = shelf.held ++ take (count_written shelf piece) piece; room = shelf.room; failing = shelf.failing; calls = counted shelf.calls; faults = shelf.faults }
+    then record {
+      held = shelf.held;
+      room = shelf.room;
+      failing = shelf.failing;
+      calls = counted shelf.calls;
+      faults = counted shelf.faults;
+    }
+    else record {
+      held = shelf.held ++ take (count_written shelf piece) piece;
+      room = shelf.room;
+      failing = shelf.failing;
+      calls = counted shelf.calls;
+      faults = shelf.faults;
+    }

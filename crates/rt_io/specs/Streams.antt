@@ -1,5 +1,6 @@
 -- What one call of a source or a sink does, whatever stands behind it.
-use Rattle.std.specs.Prelude.{◌≡◌, ℕ, ◌+◌, ◌-◌, ◌^◌, ◌<◌, ◌≤◌, min, List, [], ◌++◌, length, take, drop, Option, Some, None}
+use Rattle.std.specs.Prelude.{◌≡◌, ℕ, ◌+◌, ◌-◌, ◌^◌, ◌<◌, ◌≤◌, min, List, [], ◌++◌, length, take, drop, Option, Some}
+use Rattle.std.specs.Prelude.{None}
 use Rattle.rt_io.specs.declared.source.Read.{Read}
 use Rattle.rt_io.specs.declared.source.Read.TheVariants as r
 use Rattle.rt_io.specs.declared.sink.Wrote.{Wrote}
@@ -9,9 +10,11 @@ use Rattle.rt_io.specs.declared.sink.Wrote.TheVariants as w
 abbrev pub Rose : ℕ → ℕ → Type 0
 Rose before now = min (before + 1) (2 ^ 64 - 1) ≤ now
 
--- The first n bytes that were left stand at the beginning of the buffer. None of them, for a buffer with room, is the end.
+-- The first n bytes that were left stand at the beginning of the buffer. None of them, for a buffer with room, is the
+-- end.
 abbrev pub Takes : Option (List ℕ) → Option (List ℕ) → ℕ → List ℕ → Type 0
-Takes (Some left) new n buf = (n ≤ length left) × (take n buf ≡ take n left) × (new ≡ Some (drop n left)) × (n ≡ 0 → 0 < length buf → left ≡ [])
+Takes (Some left) new n buf = (n ≤ length left) × (take n buf ≡ take n left) × (new ≡ Some (drop n left))
+    × (n ≡ 0 → 0 < length buf → left ≡ [])
 Takes None new n buf = Unit {0}
 
 abbrev pub ReadTakes : Option (List ℕ) → Option (List ℕ) → Read → List ℕ → Type 0

@@ -17,7 +17,8 @@ TakesFront None new = Unit {0}
 abbrev pub ReadAllCause : Option (List ℕ) → ℕ → ℕ → ℕ → ReadAllFault → Type 0
 ReadAllCause old before now limit NoMemory = now ≡ before
 ReadAllCause old before now limit ReadFault = Rose before now
-ReadAllCause old before now limit (TooLong most) = (most ≡ limit) × IfSome old (λ left. limit < length left) × (now ≡ before)
+ReadAllCause old before now limit (TooLong most) = (most ≡ limit) × IfSome old (λ left. limit < length left)
+    × (now ≡ before)
 
 -- some first bytes were put
 abbrev pub PutsFront : Option (List ℕ) → Option (List ℕ) → List ℕ → Type 0

@@ -1,13 +1,11 @@
-//! Where bytes come from and go to: the traits of sources and sinks, what stands for them in memory, the adapters over
-//! standard readers and writers, and whole reads and writes.
+//! Where bytes come from and go to: the traits of sources and sinks, what stands for them in
+//! memory, the adapters over standard readers and writers, and whole reads and writes.
 #![tactic(auto)]
 
 mod memory;
 mod sink;
 mod source;
 mod standard;
-#[cfg(test)]
-mod tests;
 mod whole;
 
 pub use memory::{MemSink, MemSource};

@@ -1,5 +1,6 @@
 ghost use Rattle.std.specs.Prelude.{◌≡◌, Some, IfOk, length};
-ghost use Rattle.rt_io.specs.Memory.{full_tape, read_of, tape_after, empty_shelf, write_of, shelf_after};
+ghost use Rattle.rt_io.specs.Memory.{full_tape, read_of, tape_after, empty_shelf, write_of};
+ghost use Rattle.rt_io.specs.Memory.{shelf_after};
 ghost use Rattle.rt_io.specs.Streams.{ReadTakes, ReadCause, WritePuts, WriteCause};
 
 use crate::sink::{Sink, Wrote};
@@ -24,13 +25,19 @@ impl Model for MemSource {
 
     ghost Value = { Tape };
 
-    ghost view = { λ s. record { left = drop s.taken s.bytes; failing = s.failing; calls = s.calls; faults = s.faults } };
+    ghost view = { λ s. record {
+      left = drop s.taken s.bytes;
+      failing = s.failing;
+      calls = s.calls;
+      faults = s.faults;
+    } };
 
     ghost invariant = { λ s. s.taken ≤ length s.bytes };
 }
 
 impl MemSource {
-    /// A source that has these bytes to give, and whose reads of the numbers in `failing`, counted from 0, fail.
+    /// A source that has these bytes to give, and whose reads of the numbers in `failing`, counted
+    /// from 0, fail.
     pub fn new(bytes: Bytes, failing: List<u64>) -> MemSource
         ensures { result ≡ full_tape bytes failing }
     {
@@ -89,14 +96,20 @@ impl Model for MemSink {
 
     ghost Value = { Shelf };
 
-    ghost view = { λ s. record { held = s.written.items; room = s.room; failing = s.failing; calls = s.calls; faults = s.faults } };
+    ghost view = { λ s. record {
+      held = s.written.items;
+      room = s.room;
+      failing = s.failing;
+      calls = s.calls;
+      faults = s.faults;
+    } };
 
     ghost invariant = { λ s. (vec_len s.written ≤ s.room) × (s.room ≤ vec_capacity s.written) };
 }
 
 impl MemSink {
-    /// A sink with room for so many bytes, whose writes of the numbers in `failing`, counted from 0, fail.
-    /// Fails for want of memory alone; no write of the sink takes memory.
+    /// A sink with room for so many bytes, whose writes of the numbers in `failing`, counted from
+    /// 0, fail. Fails for want of memory alone; no write of the sink takes memory.
     pub fn new(alloc: Global, room: usize, failing: List<u64>) -> Result<MemSink, AllocError>
         ensures { IfOk result (λ s. s ≡ empty_shelf room failing) }
     {

@@ -43,15 +43,17 @@ const PIECE: usize = 4096;
 
 /// Reads all bytes up to the end of the source, at most `limit`.
 ///
-/// `ReadFault` where the source failed, `TooLong` where it gave more than `limit` bytes. In both cases some first
-/// bytes of what was left were taken from it. The source's count of faults rises with `ReadFault` alone.
+/// `ReadFault` where the source failed, `TooLong` where it gave more than `limit` bytes. In both
+/// cases some first bytes of what was left were taken from it. The source's count of faults rises
+/// with `ReadFault` alone.
 pub fn read_all<S: Source>(
     alloc: Global,
     source: &mut S,
     limit: usize,
 ) -> Result<Bytes, ReadAllFault>
     ensures whole { IfOk result (ReadsAll (S.left source.old) (S.left source.new) limit) }
-    ensures cause { IfErr result (ReadAllCause (S.left source.old) (S.faults source.old) (S.faults source.new) limit) }
+    ensures cause { IfErr result (ReadAllCause (S.left source.old) (S.faults source.old)
+        (S.faults source.new) limit) }
     ensures taken { TakesFront (S.left source.old) (S.left source.new) }
     ensures steady { OnOk result (S.faults source.new ≡ S.faults source.old) }
     ensures later { S.faults source.old ≤ S.faults source.new }
@@ -74,7 +76,8 @@ pub fn read_all<S: Source>(
 
 /// Writes all bytes, without memory.
 ///
-/// `WriteFault` where the sink failed; some first bytes were written then. Else its count of faults stays.
+/// `WriteFault` where the sink failed; some first bytes were written then. Else its count of faults
+/// stays.
 pub fn write_all<S: Sink>(sink: &mut S, bytes: &[u8]) -> Result<(), WriteFault>
     ensures whole { OnOk result (Puts (S.held sink.old) (S.held sink.new) bytes.now) }
     ensures front { OnErr result (PutsFront (S.held sink.old) (S.held sink.new) bytes.now) }

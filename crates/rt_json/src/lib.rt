@@ -1,6 +1,7 @@
 //! JSON, RFC 8259: texts read as trees, and trees written as texts.
 #![tactic(auto)]
 
+pub mod building;
 mod bytes;
 mod copying;
 mod fault;

@@ -109,10 +109,7 @@ pub fn after_item(
                 mode: Mode::Value,
             })
         }
-        Class::RightBracket => {
-            let state = completed(stack, Json::List(items))?;
-            Ok(state)
-        }
+        Class::RightBracket => Ok(completed(stack, Json::List(items))?),
         _ => Err(Stop::Bad(left)),
     }
 }
@@ -134,8 +131,8 @@ pub fn at_first_name(
             mode: Mode::FirstName,
         }),
         Class::RightBrace => {
-            let state = completed(stack, Json::Object(List::new(Vec::new(alloc))))?;
-            Ok(state)
+            let empty = Json::Object(List::new(Vec::new(alloc)));
+            Ok(completed(stack, empty)?)
         }
         _ => Err(Stop::Bad(left)),
     }
@@ -205,10 +202,7 @@ pub fn after_member(
             stack,
             mode: Mode::Name(members),
         }),
-        Class::RightBrace => {
-            let state = completed(stack, Json::Object(members))?;
-            Ok(state)
-        }
+        Class::RightBrace => Ok(completed(stack, Json::Object(members))?),
         _ => Err(Stop::Bad(left)),
     }
 }

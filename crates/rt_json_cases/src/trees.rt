@@ -35,7 +35,10 @@ pub fn behind(alloc: Global, word: &str, text: &str) -> io::Result<String> {
 }
 
 fn tree(alloc: Global, text: &str) -> io::Result<Json> {
-    read(alloc, text.as_bytes()).map_err(|_| io::ErrorKind::InvalidInput.into())
+    match read(alloc, text.as_bytes()) {
+        Ok(tree) => Ok(tree),
+        Err(_) => Err(io::ErrorKind::InvalidInput.into()),
+    }
 }
 
 fn spelling(alloc: Global, tree: &Json) -> io::Result<String> {

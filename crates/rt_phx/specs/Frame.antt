@@ -40,7 +40,8 @@ message_of_object tree =
 -- version 2: exactly join_ref, ref, topic, event and payload
 abbrev pub message_of_five : List Json → Option Message
 message_of_five (join_ref ∷ reference ∷ topic ∷ event ∷ payload ∷ []) =
-    ref_of join_ref >>= λ j. ref_of reference >>= λ r. text_of topic >>= λ t. text_of event >>= λ e. Some (message j r t e payload)
+    ref_of join_ref >>= λ j. ref_of reference >>= λ r. text_of topic >>= λ t. text_of event
+    >>= λ e. Some (message j r t e payload)
 message_of_five _ = None
 
 abbrev pub message_of_tree : Version → Json → Option Message
@@ -60,12 +61,14 @@ pub record IsMessage (version : Version) (bytes : List ℕ) (message : Message) 
 
 -- The message of a frame, none of a bad one. That it is the one of `IsMessage` is a law.
 unfoldable pub message_of : Version → List ℕ → Option Message
-message_of version bytes = some_if (nat_le (length bytes) frame_limit) bytes >>= λ frame. tree_of frame >>= message_of_tree version
+message_of version bytes = some_if (nat_le (length bytes) frame_limit) bytes >>= λ frame. tree_of frame
+    >>= message_of_tree version
 
 -- a message as a tree
 abbrev pub tree_of_message : Version → Message → Json
 tree_of_message V1 m =
-    j.Object (field (codes "topic") (Text m.topic) ∷ field (codes "event") (Text m.event) ∷ field (codes "payload") m.payload ∷ field (codes "ref") m.reference ∷ [])
+    j.Object (field (codes "topic") (Text m.topic) ∷ field (codes "event") (Text m.event)
+    ∷ field (codes "payload") m.payload ∷ field (codes "ref") m.reference ∷ [])
 tree_of_message V2 m = j.List (m.join_ref ∷ m.reference ∷ Text m.topic ∷ Text m.event ∷ m.payload ∷ [])
 
 -- the one spelling of a message

@@ -66,7 +66,13 @@ asked_in tree =
     word (member_of tree (codes "schema")) >>= λ schema.
     word (member_of tree (codes "table")) >>= λ table.
     filters_in (member_of tree (codes "filter")) >>= λ filters.
-    Some (record { event = unwrap_or event []; schema = unwrap_or schema (codes "public"); table = table; filters = filters })
+    Some (record {
+      event = unwrap_or event [];
+      schema = unwrap_or schema
+          (codes "public");
+      table = table;
+      filters = filters;
+    })
 
 abbrev pub each_asked : List Json → Option (List Asked)
 each_asked [] = Some []

@@ -28,7 +28,14 @@ parts_among members =
 -- the items of a list of exactly five
 abbrev pub parts_in_five : List Json → Option Parts
 parts_in_five (join_ref ∷ reference ∷ topic ∷ event ∷ payload ∷ []) =
-    Some (record { topic = Some topic; event = Some event; payload = Some payload; reference = Some reference; join_ref = Some join_ref })
+    Some (record {
+      topic = Some topic;
+      event = Some event;
+      payload = Some payload;
+      reference = Some reference;
+      join_ref
+          = Some join_ref;
+    })
 parts_in_five _ = None
 
 -- the message, where each part has its form

@@ -1,5 +1,6 @@
 -- The messages of a post over HTTP, and what the channels of their topics are told (this project's profile).
-use Rattle.std.specs.Prelude.{ℕ, nat_lt, nat_le, Bool, ◌&&◌, List, [], ◌∷◌, ◌++◌, codes, length, Option, Some, None, option_map}
+use Rattle.std.specs.Prelude.{ℕ, nat_lt, nat_le, Bool, ◌&&◌, List, [], ◌∷◌, ◌++◌, codes, length, Option, Some, None}
+use Rattle.std.specs.Prelude.{option_map}
 use Rattle.rt_value.specs.Choice.{◌>>=◌, some_if}
 use Rattle.rt_json.specs.declared.tree.Json.{Json, Text}
 use Rattle.rt_json.specs.declared.tree.Json.TheVariants as j
@@ -30,7 +31,8 @@ are_few trees = nat_lt 0 (length trees) && nat_le (length trees) posting_limit
 
 -- the messages of a post's body: a list of 1 to 100 of them under `messages`
 unfoldable pub postings_of : Json → Option (List Posting)
-postings_of tree = (member_of tree (codes "messages") >>= list_of) >>= λ trees. some_if (are_few trees) trees >>= each_posting
+postings_of tree = (member_of tree (codes "messages") >>= list_of) >>= λ trees. some_if (are_few trees) trees
+    >>= each_posting
 
 -- the topic of the channels that a message is for
 abbrev pub channel_topic : Posting → List ℕ

@@ -1,5 +1,5 @@
--- The messages that the server says, by their forms (the Realtime protocol, "Channels"). A reply answers a frame; every other message of a
--- channel has the channel's join_ref, and ref null.
+-- The messages that the server says, by their forms (the Realtime protocol, "Channels"). A reply answers a frame; every
+-- other message of a channel has the channel's join_ref, and ref null.
 use Rattle.std.specs.Prelude.{ℕ, List, [], ◌∷◌, map, codes}
 use Rattle.std.specs.Fmt.{decimal}
 use Rattle.rt_json.specs.declared.tree.Json.{Json, Null, Num, Text}
@@ -36,11 +36,13 @@ close_of join_ref topic = message join_ref join_ref topic (codes "phx_close") no
 
 abbrev pub system_payload : List ℕ → List ℕ → List ℕ → List ℕ → Json
 system_payload text status extension channel =
-    j.Object (field (codes "message") (Text text) ∷ field (codes "status") (Text status) ∷ field (codes "extension") (Text extension) ∷ field (codes "channel") (Text channel) ∷ [])
+    j.Object (field (codes "message") (Text text) ∷ field (codes "status") (Text status)
+    ∷ field (codes "extension") (Text extension) ∷ field (codes "channel") (Text channel) ∷ [])
 
 -- that the changes of a channel come
 abbrev pub subscribed_payload : List ℕ → Json
-subscribed_payload channel = system_payload (codes "Subscribed to PostgreSQL") (codes "ok") (codes "postgres_changes") channel
+subscribed_payload channel = system_payload (codes "Subscribed to PostgreSQL") (codes "ok")
+    (codes "postgres_changes") channel
 
 -- why a channel closes
 abbrev pub failed_payload : List ℕ → List ℕ → Json
@@ -51,7 +53,8 @@ number_tree n = Num (decimal n)
 
 -- ids, and the data of a change
 abbrev pub change_payload : List ℕ → Json → Json
-change_payload ids change = j.Object (field (codes "ids") (j.List (map number_tree ids)) ∷ field (codes "data") change ∷ [])
+change_payload ids change = j.Object (field (codes "ids") (j.List (map number_tree ids)) ∷ field (codes "data") change
+    ∷ [])
 
 -- the names of terminators
 abbrev pub end_text : EndName → List ℕ

@@ -3,7 +3,8 @@ ghost use Rattle.rt_json.specs.Trees.{list_of};
 ghost use Rattle.rt_phx.specs.declared.message.Version.{Version};
 ghost use Rattle.rt_phx.specs.declared.message.Message.{Message};
 ghost use Rattle.rt_phx.specs.Answers.{IsFaultOf, IsAnswer, IsBadFrame, IsComputed};
-ghost use Rattle.rt_phx.specs.Frame.{IsMessage, message_of, message_of_tree, message_of_object, message_of_five};
+ghost use Rattle.rt_phx.specs.Frame.{IsMessage, message_of, message_of_tree, message_of_object};
+ghost use Rattle.rt_phx.specs.Frame.{message_of_five};
 
 use crate::fault::PhxFault;
 use crate::message::{Message, Version};
@@ -53,10 +54,10 @@ fn computed(alloc: Global, version: Version, bytes: &[u8]) -> Result<Message, Ph
 
 /// The message of a frame of at most 1048576 bytes, which is JSON (RFC 8259).
 ///
-/// In version 1 it is an object with texts `topic` and `event`, and optionally `payload` (`{}` where it is absent),
-/// `ref` and `join_ref` (null where they are absent). Of a name that comes again the last counts, and other members
-/// are passed over. In version 2 it is a list of exactly five: join_ref, ref, topic, event and payload. In both a ref
-/// is null, a text or a number.
+/// In version 1 it is an object with texts `topic` and `event`, and optionally `payload` (`{}`
+/// where it is absent), `ref` and `join_ref` (null where they are absent). Of a name that comes
+/// again the last counts, and other members are passed over. In version 2 it is a list of exactly
+/// five: join_ref, ref, topic, event and payload. In both a ref is null, a text or a number.
 ///
 /// Fails with `BadFrame` exactly where the bytes are no such frame, or for want of memory.
 pub fn decode(alloc: Global, version: Version, bytes: &[u8]) -> Result<Message, PhxFault>
@@ -65,8 +66,10 @@ pub fn decode(alloc: Global, version: Version, bytes: &[u8]) -> Result<Message, 
     ensures fault { IfErr result (λ fault. IsFaultOf version bytes.now fault) }
 
     // The message of a frame is answered, and that a frame is bad, unless memory runs out.
-    ensures only { (message : Message) → IsMessage version bytes.now message → IsAnswer result message }
-    ensures bad { ((message : Message) → IsMessage version bytes.now message → ⊥) → IsBadFrame result }
+    ensures only { (message : Message) → IsMessage version bytes.now message
+        → IsAnswer result message }
+    ensures bad { ((message : Message) → IsMessage version bytes.now message → ⊥)
+        → IsBadFrame result }
 
     // The function that computes the message agrees.
     ensures computed { IsComputed (message_of version bytes.now) result }
@@ -77,8 +80,10 @@ pub fn decode(alloc: Global, version: Version, bytes: &[u8]) -> Result<Message, 
 
 /// A frame has one message at most, and the function that computes it gives it.
 pub fn one_message()
-    ensures one { (version : Version) (bytes : List ℕ) (a b : Message) → IsMessage version bytes a → IsMessage version bytes b → a ≡ b }
-    ensures computed { (version : Version) (bytes : List ℕ) (message : Message) → IsMessage version bytes message ↔ (message_of version bytes ≡ Some message) }
+    ensures one { (version : Version) (bytes : List ℕ) (a b : Message) → IsMessage version bytes a
+        → IsMessage version bytes b → a ≡ b }
+    ensures computed { (version : Version) (bytes : List ℕ) (message : Message)
+        → IsMessage version bytes message ↔ (message_of version bytes ≡ Some message) }
 {
     one_tree();
 }

@@ -21,7 +21,8 @@ fn with_str(out: Vec<u8>, text: &str) -> Result<Vec<u8>, AllocError>
 }
 
 fn with_tree(out: Vec<u8>, before: &str, tree: &Json) -> Result<Vec<u8>, AllocError>
-    ensures spelling { IfOk result (λ all. all.items ≡ (out.items ++ before.now) ++ written tree.now) }
+    ensures spelling { IfOk result (λ all.
+        all.items ≡ (out.items ++ before.now) ++ written tree.now) }
     ensures utf8 { IfOk result (λ all. IsUtf8 out.items → IsUtf8 all.items) }
 {
     let out = with_str(out, before)?;
@@ -29,7 +30,8 @@ fn with_tree(out: Vec<u8>, before: &str, tree: &Json) -> Result<Vec<u8>, AllocEr
 }
 
 fn with_text(alloc: Global, out: Vec<u8>, before: &str, text: &Text) -> Result<Vec<u8>, AllocError>
-    ensures spelling { IfOk result (λ all. all.items ≡ (out.items ++ before.now) ++ quoted text.now) }
+    ensures spelling { IfOk result (λ all.
+        all.items ≡ (out.items ++ before.now) ++ quoted text.now) }
     ensures utf8 { IfOk result (λ all. IsUtf8 out.items → IsUtf8 all.items) }
 {
     let tree = Json::Text(text.copy(alloc)?);
@@ -61,8 +63,9 @@ fn encode_list(alloc: Global, message: &Message) -> Result<Vec<u8>, AllocError>
     with_str(out, "]")
 }
 
-/// The one spelling of a message, without blanks and in UTF-8: in version 1 the object of `topic`, `event`, `payload`
-/// and `ref`, in version 2 the list of join_ref, ref, topic, event and payload. Fails for want of memory alone.
+/// The one spelling of a message, without blanks and in UTF-8: in version 1 the object of `topic`,
+/// `event`, `payload` and `ref`, in version 2 the list of join_ref, ref, topic, event and payload.
+/// Fails for want of memory alone.
 pub fn encode(alloc: Global, version: Version, message: &Message) -> Result<Bytes, AllocError>
     ensures spelling { IfOk result (λ bytes. bytes ≡ spelled version message.now) }
     ensures utf8 { IfOk result (λ bytes. IsUtf8 bytes) }
@@ -74,12 +77,13 @@ pub fn encode(alloc: Global, version: Version, message: &Message) -> Result<Byte
     Ok(Bytes::new(bytes))
 }
 
-/// What is encoded in version 2 is a frame of the same message, and in version 1 of the same but for its join_ref,
-/// which is null there. The message's refs are null, texts or numbers, its texts are UTF-8, its payload nests in at
-/// most 63 levels, and its spelling is within a frame's length.
+/// What is encoded in version 2 is a frame of the same message, and in version 1 of the same but
+/// for its join_ref, which is null there. The message's refs are null, texts or numbers, its texts
+/// are UTF-8, its payload nests in at most 63 levels, and its spelling is within a frame's length.
 pub fn encoded_again()
     ensures second { (m : Message) → FitsFrame V2 m → IsMessage V2 (spelled V2 m) m }
-    ensures first { (m : Message) → FitsFrame V1 m → IsMessage V1 (spelled V1 m) (record m { join_ref = Null }) }
+    ensures first { (m : Message) → FitsFrame V1 m
+        → IsMessage V1 (spelled V1 m) (record m { join_ref = Null }) }
 {
     written_again();
 }

@@ -1,4 +1,5 @@
-//! Messages of the channel protocol in both versions of its frames (the Realtime protocol, "Messages").
+//! Messages of the channel protocol in both versions of its frames (the Realtime protocol,
+//! "Messages").
 #![tactic(auto)]
 
 mod copying;

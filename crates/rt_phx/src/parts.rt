@@ -88,7 +88,8 @@ impl Parts {
         })
     }
 
-    /// The message, where each part has its form. An absent payload is `{}`, an absent ref or join_ref null.
+    /// The message, where each part has its form. An absent payload is `{}`, an absent ref or
+    /// join_ref null.
     pub fn message(self, alloc: Global) -> Option<Message>
         ensures { result ≡ spec.message_of_parts self }
     {

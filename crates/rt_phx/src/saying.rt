@@ -5,8 +5,9 @@ ghost use Rattle.rt_phx.specs.Says as spec;
 
 use crate::end::EndName;
 use crate::message::Message;
-use crate::trees::{number_tree, object_of_one, object_of_two, put_text, text_tree};
+use crate::trees::{object_of_one, object_of_two};
 use rt_json::Json;
+use rt_json::building::{number_tree, put_text, text_tree};
 use rt_value::{List, Text};
 use std::alloc::{AllocError, Global};
 
@@ -18,7 +19,8 @@ fn head(
     topic: &str,
     event: &str,
 ) -> Result<Message, AllocError>
-    ensures { IfOk result (λ m. m ≡ message join_ref.now reference.now topic.now event.now Json.Null) }
+    ensures { IfOk result (λ m.
+        m ≡ message join_ref.now reference.now topic.now event.now Json.Null) }
 {
     Ok(Message {
         topic: Text::new(String::from_str(alloc, topic)?),
@@ -37,7 +39,8 @@ fn message(
     event: &str,
     payload: Json,
 ) -> Result<Message, AllocError>
-    ensures { IfOk result (λ m. m ≡ message join_ref.now reference.now topic.now event.now payload) }
+    ensures { IfOk result (λ m.
+        m ≡ message join_ref.now reference.now topic.now event.now payload) }
 {
     let head = head(alloc, join_ref, reference, topic, event)?;
     Ok(Message { payload, ..head })
@@ -50,7 +53,8 @@ fn reply_to(
     status: &str,
     response: Json,
 ) -> Result<Message, AllocError>
-    ensures { IfOk result (λ m. m ≡ spec.reply_to join_ref.now frame.now (spec.reply_payload status.now response)) }
+    ensures { IfOk result (λ m. m ≡ spec.reply_to join_ref.now frame.now
+        (spec.reply_payload status.now response)) }
 {
     let status = text_tree(alloc, status)?;
     let payload = object_of_two(alloc, "status", status, "response", response)?;
@@ -65,8 +69,8 @@ fn reply_to(
     )
 }
 
-/// The reply `ok` to a frame, with the frame's topic and ref. `join_ref` is the channel's, or the frame's where there
-/// is no channel.
+/// The reply `ok` to a frame, with the frame's topic and ref. `join_ref` is the channel's, or the
+/// frame's where there is no channel.
 pub fn reply_ok(
     alloc: Global,
     join_ref: &Json,
@@ -112,7 +116,8 @@ pub fn broadcast(
     topic: &str,
     payload: Json,
 ) -> Result<Message, AllocError>
-    ensures { IfOk result (λ m. m ≡ spec.said_on join_ref.now topic.now (codes "broadcast") payload) }
+    ensures { IfOk result (λ m. m ≡ spec.said_on join_ref.now topic.now
+        (codes "broadcast") payload) }
 {
     said_on(alloc, join_ref, topic, "broadcast", payload)
 }
@@ -134,7 +139,8 @@ fn system(
     extension: &str,
     channel: &str,
 ) -> Result<Message, AllocError>
-    ensures { IfOk result (λ m. m ≡ spec.said_on join_ref.now topic.now (codes "system") (spec.system_payload text.now status.now extension.now channel.now)) }
+    ensures { IfOk result (λ m. m ≡ spec.said_on join_ref.now topic.now (codes "system")
+        (spec.system_payload text.now status.now extension.now channel.now)) }
 {
     let mut members = Vec::new(alloc);
     put_text(alloc, &mut members, "message", text)?;
@@ -152,7 +158,8 @@ pub fn subscribed(
     topic: &str,
     channel: &str,
 ) -> Result<Message, AllocError>
-    ensures { IfOk result (λ m. m ≡ spec.said_on join_ref.now topic.now (codes "system") (spec.subscribed_payload channel.now)) }
+    ensures { IfOk result (λ m. m ≡ spec.said_on join_ref.now topic.now (codes "system")
+        (spec.subscribed_payload channel.now)) }
 {
     let text = "Subscribed to PostgreSQL";
     system(
@@ -174,7 +181,8 @@ pub fn failed(
     reason: &str,
     channel: &str,
 ) -> Result<Message, AllocError>
-    ensures { IfOk result (λ m. m ≡ spec.said_on join_ref.now topic.now (codes "system") (spec.failed_payload reason.now channel.now)) }
+    ensures { IfOk result (λ m. m ≡ spec.said_on join_ref.now topic.now (codes "system")
+        (spec.failed_payload reason.now channel.now)) }
 {
     system(alloc, join_ref, topic, reason, "error", "system", channel)
 }
@@ -197,7 +205,8 @@ pub fn change(
     ids: &[u64],
     tree: Json,
 ) -> Result<Message, AllocError>
-    ensures { IfOk result (λ m. m ≡ spec.said_on join_ref.now topic.now (codes "postgres_changes") (spec.change_payload ids.now tree)) }
+    ensures { IfOk result (λ m. m ≡ spec.said_on join_ref.now topic.now (codes "postgres_changes")
+        (spec.change_payload ids.now tree)) }
 {
     let ids = number_trees(alloc, ids)?;
     let payload = object_of_two(alloc, "ids", ids, "data", tree)?;

@@ -1,7 +1,29 @@
 use case_lines::text_of;
+use rt_json::{Json, read};
 use rt_phx::{Message, PhxFault, Version, decode, encode};
 use std::alloc::Global;
 use std::io;
+
+/// A case that is none.
+pub fn wrong() -> io::Error {
+    io::ErrorKind::InvalidInput.into()
+}
+
+/// The tree of a JSON text.
+pub fn tree(alloc: Global, text: &str) -> io::Result<Json> {
+    match read(alloc, text.as_bytes()) {
+        Ok(tree) => Ok(tree),
+        Err(_) => Err(wrong()),
+    }
+}
+
+/// The message of a frame of version 2.
+pub fn frame_of(alloc: Global, text: &str) -> io::Result<Message> {
+    match decode(alloc, Version::V2, text.as_bytes()) {
+        Ok(message) => Ok(message),
+        Err(_) => Err(wrong()),
+    }
+}
 
 /// What stands before the first blank, and what stands behind it.
 pub fn first_word(case: &[u8]) -> (&[u8], &[u8]) {
@@ -28,7 +50,10 @@ fn refused(alloc: Global, fault: PhxFault) -> io::Result<String> {
 /// The message of a frame, as another version spells it.
 pub fn respelled(alloc: Global, frame: &[u8], from: Version, to: Version) -> io::Result<String> {
     match decode(alloc, from, frame) {
-        Ok(message) => spelled(alloc, to, &message.copy(alloc)?),
+        Ok(message) => {
+            let copy = message.copy(alloc)?;
+            spelled(alloc, to, &copy)
+        }
         Err(fault) => refused(alloc, fault),
     }
 }

@@ -1,81 +1,111 @@
-use crate::frames::spelled;
-use rt_json::{Json, read};
+use crate::frames::{frame_of, spelled, tree, wrong};
+use rt_json::Json;
 use rt_phx::saying::{
     broadcast, change, close, failed, reply_error, reply_ok, said_on, subscribed,
 };
-use rt_phx::{Message, Version, decode};
+use rt_phx::{Message, Version};
 use std::alloc::Global;
 use std::io;
 
-/// What a function of `rt_phx::saying` says, as version 2 spells it.
+/// What a function of `rt_phx::saying` says, as version 2 spells it. The first argument is always
+/// the join_ref.
 pub fn said(alloc: Global, function: &str, arguments: &str) -> io::Result<String> {
+    let Some((join_ref, arguments)) = arguments.split_once(" | ") else {
+        return Err(wrong());
+    };
+    let join_ref = tree(alloc, join_ref)?;
     let arguments: Vec<&str> = arguments.split(" | ").collect(alloc)?;
-    let message = message_of(alloc, function, arguments.as_slice())?;
+    let message = message_of(alloc, function, &join_ref, arguments.as_slice())?;
     spelled(alloc, Version::V2, &message)
 }
 
-fn message_of(alloc: Global, function: &str, arguments: &[&str]) -> io::Result<Message> {
-    match (function, arguments) {
-        ("reply_ok", [join_ref, frame, response]) => replied(alloc, join_ref, frame, response),
-        ("reply_error", [join_ref, frame, reason]) => refused(alloc, join_ref, frame, reason),
-        ("broadcast", [join_ref, topic, payload]) => {
-            let payload = tree(alloc, payload)?;
-            Ok(broadcast(alloc, &tree(alloc, join_ref)?, topic, payload)?)
-        }
-        ("said_on", [join_ref, topic, event, payload]) => {
-            let payload = tree(alloc, payload)?;
-            Ok(said_on(alloc, &tree(alloc, join_ref)?, topic, event, payload)?)
-        }
-        ("change", [join_ref, topic, ids, data]) => changed(alloc, join_ref, topic, ids, data),
-        ("close", [join_ref, topic]) => Ok(close(alloc, &tree(alloc, join_ref)?, topic)?),
-        ("failed", [join_ref, topic, reason, channel]) => {
-            Ok(failed(alloc, &tree(alloc, join_ref)?, topic, reason, channel)?)
-        }
-        ("subscribed", [join_ref, topic, channel]) => {
-            Ok(subscribed(alloc, &tree(alloc, join_ref)?, topic, channel)?)
-        }
-        _ => Err(io::ErrorKind::InvalidInput.into()),
+fn message_of(
+    alloc: Global,
+    function: &str,
+    join_ref: &Json,
+    arguments: &[&str],
+) -> io::Result<Message> {
+    match arguments {
+        [topic] => closed(alloc, function, join_ref, topic),
+        [one, two] => of_two(alloc, function, join_ref, one, two),
+        [topic, one, two] => of_three(alloc, function, join_ref, topic, one, two),
+        _ => Err(wrong()),
     }
 }
 
-fn tree(alloc: Global, text: &str) -> io::Result<Json> {
-    read(alloc, text.as_bytes()).map_err(|_| io::ErrorKind::InvalidInput.into())
+fn closed(alloc: Global, function: &str, join_ref: &Json, topic: &str) -> io::Result<Message> {
+    match function {
+        "close" => Ok(close(alloc, join_ref, topic)?),
+        _ => Err(wrong()),
+    }
 }
 
-fn frame_of(alloc: Global, text: &str) -> io::Result<Message> {
-    decode(alloc, Version::V2, text.as_bytes()).map_err(|_| io::ErrorKind::InvalidInput.into())
+fn of_two(
+    alloc: Global,
+    function: &str,
+    join_ref: &Json,
+    one: &str,
+    two: &str,
+) -> io::Result<Message> {
+    match function {
+        "reply_ok" => replied(alloc, join_ref, one, two),
+        "reply_error" => {
+            let frame = frame_of(alloc, one)?;
+            Ok(reply_error(alloc, join_ref, &frame, two)?)
+        }
+        "broadcast" => {
+            let payload = tree(alloc, two)?;
+            Ok(broadcast(alloc, join_ref, one, payload)?)
+        }
+        "subscribed" => Ok(subscribed(alloc, join_ref, one, two)?),
+        _ => Err(wrong()),
+    }
 }
 
-fn replied(alloc: Global, join_ref: &str, frame: &str, response: &str) -> io::Result<Message> {
+fn of_three(
+    alloc: Global,
+    function: &str,
+    join_ref: &Json,
+    topic: &str,
+    one: &str,
+    two: &str,
+) -> io::Result<Message> {
+    match function {
+        "said_on" => {
+            let payload = tree(alloc, two)?;
+            Ok(said_on(alloc, join_ref, topic, one, payload)?)
+        }
+        "change" => changed(alloc, join_ref, topic, one, two),
+        "failed" => Ok(failed(alloc, join_ref, topic, one, two)?),
+        _ => Err(wrong()),
+    }
+}
+
+fn replied(alloc: Global, join_ref: &Json, frame: &str, response: &str) -> io::Result<Message> {
     let response = tree(alloc, response)?;
     let frame = frame_of(alloc, frame)?;
-    Ok(reply_ok(alloc, &tree(alloc, join_ref)?, &frame, response)?)
-}
-
-fn refused(alloc: Global, join_ref: &str, frame: &str, reason: &str) -> io::Result<Message> {
-    let frame = frame_of(alloc, frame)?;
-    Ok(reply_error(alloc, &tree(alloc, join_ref)?, &frame, reason)?)
+    Ok(reply_ok(alloc, join_ref, &frame, response)?)
 }
 
 fn changed(
     alloc: Global,
-    join_ref: &str,
+    join_ref: &Json,
     topic: &str,
     ids: &str,
     data: &str,
 ) -> io::Result<Message> {
-    let data = tree(alloc, data)?;
     let ids = numbers(alloc, ids)?;
-    Ok(change(alloc, &tree(alloc, join_ref)?, topic, ids.as_slice(), data)?)
+    let data = tree(alloc, data)?;
+    Ok(change(alloc, join_ref, topic, ids.as_slice(), data)?)
 }
 
 fn numbers(alloc: Global, text: &str) -> io::Result<Vec<u64>> {
     let mut numbers = Vec::new(alloc);
     for digits in text.split(' ') {
-        match digits.parse() {
-            Ok(number) => numbers.push(number)?,
-            Err(_) => return Err(io::ErrorKind::InvalidInput.into()),
-        }
+        let Ok(number) = digits.parse::<u64>() else {
+            return Err(wrong());
+        };
+        numbers.push(number)?;
     }
     Ok(numbers)
 }

@@ -78,7 +78,8 @@ pub fn copied<K: Ord + Copies, V: Copies>(
 /// Takes the channel's track on the topic out.
 pub fn take(tracks: &mut Tracks, places: &mut Places, place: &Place)
     requires { IsIndexed tracks.old.entries places.old.entries }
-    ensures tracks { tracks.new.entries ≡ without_channel tracks.old.entries place.now.topic place.now.channel }
+    ensures tracks { tracks.new.entries
+        ≡ without_channel tracks.old.entries place.now.topic place.now.channel }
     ensures index { IsIndexed tracks.new.entries places.new.entries }
 {
     // A map's length tells a proof that its keys rise.

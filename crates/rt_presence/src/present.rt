@@ -1,5 +1,6 @@
 ghost use Rattle.std.specs.Prelude.{◌≡◌, [], None, Some, map, option_map, IfOk, OnOk, OnErr};
-ghost use Rattle.rt_presence.specs.Tracks.{track_of, without_channel, with_track, track_at, meta_of, joining, leaving};
+ghost use Rattle.rt_presence.specs.Tracks.{track_of, without_channel, with_track, track_at};
+ghost use Rattle.rt_presence.specs.Tracks.{meta_of, joining, leaving};
 ghost use Rattle.rt_presence.specs.Index.{least_on};
 ghost use Rattle.rt_presence.specs.Trees.{held_of, on_topic, state_tree, groups_of};
 
@@ -65,7 +66,8 @@ impl Presence {
 
     // The channel's track on the topic.
     fn find(&self, place: &Place) -> Option<(&TrackKey, &Json)>
-        ensures { option_map (λ t. (t.0.now, t.1.now)) result ≡ track_of self.now place.now.topic place.now.channel }
+        ensures { option_map (λ t. (t.0.now, t.1.now)) result
+            ≡ track_of self.now place.now.topic place.now.channel }
     {
         match self.places.get(place) {
             None => None,
@@ -97,7 +99,8 @@ impl Presence {
     }
 
     fn meta_at(&self, place: &Place) -> Result<Option<Meta>, AllocError>
-        ensures { IfOk result (λ m. m ≡ option_map meta_of (track_of self.now place.now.topic place.now.channel)) }
+        ensures { IfOk result (λ m. m ≡ option_map meta_of
+            (track_of self.now place.now.topic place.now.channel)) }
     {
         match self.find(place) {
             None => Ok(None),
@@ -107,7 +110,8 @@ impl Presence {
 
     fn joining(&self, place: &Place, track: &TrackKey, tree: &Json) -> Result<Diff, AllocError>
         ensures { IfOk result (λ d.
-            d ≡ joining (track.now, tree.now) (track_of self.now place.now.topic place.now.channel)) }
+            d ≡ joining (track.now, tree.now)
+            (track_of self.now place.now.topic place.now.channel)) }
     {
         let left = self.meta_at(place)?;
         let joined = self.meta(track, tree)?;
@@ -142,9 +146,11 @@ impl Presence {
         reference: u32,
         tree: Json,
     ) -> Result<Diff, AllocError>
-        ensures ok { OnOk result (self.new ≡ with_track self.old (track_at topic.now key.now reference channel, tree)) }
+        ensures ok { OnOk result (self.new
+            ≡ with_track self.old (track_at topic.now key.now reference channel, tree)) }
         ensures difference { IfOk result (λ d.
-            d ≡ joining (track_at topic.now key.now reference channel, tree) (track_of self.old topic.now channel)) }
+            d ≡ joining (track_at topic.now key.now reference channel, tree)
+            (track_of self.old topic.now channel)) }
         ensures err { OnErr result (self.new ≡ self.old) }
     {
         let place = self.place(topic, channel)?;
@@ -166,7 +172,8 @@ impl Presence {
     /// Errors: memory ran out. Nothing has changed then.
     pub fn untrack(&mut self, topic: &Text, channel: u32) -> Result<Option<Diff>, AllocError>
         ensures ok { OnOk result (self.new ≡ without_channel self.old topic.now channel) }
-        ensures difference { IfOk result (λ d. d ≡ option_map leaving (track_of self.old topic.now channel)) }
+        ensures difference { IfOk result (λ d.
+            d ≡ option_map leaving (track_of self.old topic.now channel)) }
         ensures err { OnErr result (self.new ≡ self.old) }
     {
         let place = self.place(topic, channel)?;
@@ -184,7 +191,8 @@ impl Presence {
     /// Errors: memory ran out. Nothing has changed then.
     pub fn drop_channel(&mut self, topic: &Text, channel: u32) -> Result<Option<Diff>, AllocError>
         ensures ok { OnOk result (self.new ≡ without_channel self.old topic.now channel) }
-        ensures difference { IfOk result (λ d. d ≡ option_map leaving (track_of self.old topic.now channel)) }
+        ensures difference { IfOk result (λ d.
+            d ≡ option_map leaving (track_of self.old topic.now channel)) }
         ensures err { OnErr result (self.new ≡ self.old) }
     {
         self.untrack(topic, channel)
@@ -203,7 +211,8 @@ impl Presence {
 
     // The metas of the topic's tracks by their keys.
     fn groups_on(&self, topic: &Text) -> Result<Vec<Group>, AllocError>
-        ensures { IfOk result (λ groups. groups.items ≡ groups_of (map held_of (on_topic topic.now self.now))) }
+        ensures { IfOk result (λ groups.
+            groups.items ≡ groups_of (map held_of (on_topic topic.now self.now))) }
     {
         let least = self.least_on(topic)?;
         let mut groups = Vec::new(self.alloc);

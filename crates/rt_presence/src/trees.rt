@@ -1,8 +1,11 @@
 //! The trees of presence messages.
-ghost use Rattle.std.specs.Prelude.{◌≡◌, ◌++◌, ◌∷◌, [], IfOk, OnOk, filter, reverse, map, option_map, option_to_list};
+ghost use Rattle.std.specs.Prelude.{◌≡◌, ◌++◌, ◌∷◌, [], IfOk, OnOk, filter, reverse, map};
+ghost use Rattle.std.specs.Prelude.{option_map, option_to_list};
 ghost use Rattle.rt_json.specs.Lookup.{members_of};
 ghost use Rattle.rt_json.specs.Trees.{field};
-ghost use Rattle.rt_presence.specs.Trees.{is_kept, meta_object, metas_member, metas_tree, added, all_added, joins_of, leaves_of, difference_tree, under, put_last, groups_tree};
+ghost use Rattle.rt_presence.specs.Trees.{is_kept, meta_object, metas_member, metas_tree, added};
+ghost use Rattle.rt_presence.specs.Trees.{all_added, joins_of, leaves_of, difference_tree, under};
+ghost use Rattle.rt_presence.specs.Trees.{put_last, groups_tree};
 
 use crate::differences::{Diff, Meta};
 use rt_json::{Json, Member};
@@ -127,13 +130,15 @@ fn metas_tree(alloc: Global, held: Vec<Held>) -> Result<Json, AllocError>
     Ok(Json::Object(List::new(members)))
 }
 
-// The last key with its metas, where it is this one, and else this one with none. What is answered is taken out.
+// The last key with its metas, where it is this one, and else this one with none. What is answered
+// is taken out.
 fn last_group(
     alloc: Global,
     groups: &mut Vec<Group>,
     key: &Text,
 ) -> Result<(Text, Vec<Json>), AllocError>
-    ensures { IfOk result (λ g. (meta : Json) → groups.new.items ++ (g.0, g.1.items ++ meta ∷ []) ∷ []
+    ensures { IfOk result (λ g. (meta : Json)
+        → groups.new.items ++ (g.0, g.1.items ++ meta ∷ []) ∷ []
         ≡ put_last (key.now, meta) groups.old.items) }
 {
     match groups.pop() {
@@ -181,7 +186,8 @@ fn put_held(
     meta: &Option<Meta>,
     out: &mut Vec<Held>,
 ) -> Result<(), AllocError>
-    ensures { OnOk result (out.new.items ≡ out.old.items ++ option_to_list (option_map (under key.now) meta.now)) }
+    ensures { OnOk result (out.new.items
+        ≡ out.old.items ++ option_to_list (option_map (under key.now) meta.now)) }
 {
     if let Some(meta) = meta {
         let tree = meta_object(alloc, meta.reference, &meta.tree)?;

@@ -47,9 +47,10 @@ fn walked(alloc: Global, tables: &SortedTables, table: u32) -> io::Result<String
 }
 
 fn table_in(word: &str) -> io::Result<u32> {
-    word.trim()
-        .parse::<u32>()
-        .map_err(|_| io::ErrorKind::InvalidInput.into())
+    match word.trim().parse::<u32>().ok() {
+        Some(table) => Ok(table),
+        None => Err(io::ErrorKind::InvalidInput.into()),
+    }
 }
 
 fn tables_in(alloc: Global, text: &str) -> io::Result<List<List<Row>>> {
@@ -96,9 +97,10 @@ pub fn key_in(alloc: Global, word: &str) -> io::Result<Key> {
 
 /// A whole number.
 pub fn number_in(word: &str) -> io::Result<i64> {
-    word.trim()
-        .parse::<i64>()
-        .map_err(|_| io::ErrorKind::InvalidInput.into())
+    match word.trim().parse::<i64>().ok() {
+        Some(number) => Ok(number),
+        None => Err(io::ErrorKind::InvalidInput.into()),
+    }
 }
 
 /// Adds a row, as cases have it, behind a blank where it is not the first.

@@ -1,3 +1,4 @@
+use crate::rows::number_in;
 use rt_value::{Kind, Text, Value, ValueFault, compare, from_text, shown_moment};
 use std::alloc::{AllocError, Global};
 use std::cmp::Ordering;
@@ -35,9 +36,7 @@ pub fn compared(alloc: Global, given: &str) -> io::Result<String> {
 /// How the moment of a text, or of `number` and a number, is shown.
 pub fn shown(alloc: Global, given: &str) -> io::Result<String> {
     let moment = match given.strip_prefix("number ") {
-        Some(number) => number
-            .parse::<i64>()
-            .map_err(|_| io::ErrorKind::InvalidInput)?,
+        Some(number) => number_in(number)?,
         None => moment_in(alloc, given)?,
     };
     let mut answer = String::new(alloc);

@@ -1,5 +1,5 @@
 use Rattle.rt_form.proofs.script_text.lines_of.Goals as goal
 
-pub returns-in_err-opening : goal.returns-in_err-opening
-returns-in_err-opening c = rw c.from_residual.ensures
-    (λ o f w p h. c.in_err-opening.ensures h.opening h.framing h.entry h.polling h.ended)
+pub returns-in_err-lines : goal.returns-in_err-lines
+returns-in_err-lines c = rw c.from_residual.ensures
+    (λ o f w p h. c.in_err-lines.ensures h.opening h.framing h.entry h.polling h.ended)

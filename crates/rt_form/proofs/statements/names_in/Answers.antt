@@ -25,7 +25,8 @@ returns-else-is_empty c = λ m a s b t k r h.
 
 pub returns-then-is_empty : goal.returns-then-is_empty
 returns-then-is_empty c = record {
-  are = all_of _ _ _ _ _ _ _ _ _ _ c.in_ok-table.ensures.2 c.in_ok-role.ensures.1 c.in_ok-rest.ensures c.get.ensures.bytes
+  are = all_of _ _ _ _ _ _ _ _ _ _ c.in_ok-table.ensures.2 c.in_ok-role.ensures.1 c.in_ok-rest.ensures
+      c.get.ensures.bytes
       c.get-2.ensures.bytes (empty_of _ _ c.is_empty.ensures c.if-is_empty.true);
   table_is = c.in_ok-table.ensures.0;
   columns_are = c.in_ok-table.ensures.1;

@@ -4,4 +4,8 @@ use Rattle.rt_phx.proofs.decoding.one_message.Goals as goal
 pub returns : goal.returns
 returns c =
     let one : OneTree = record { computed = c.one_tree.ensures.computed } in
-    record { one = once one; computed = λ version bytes message. (message_computed one version bytes message, message_found one version bytes message) }
+    record {
+      one = once one;
+      computed = λ version bytes message.
+          (message_computed one version bytes message, message_found one version bytes message);
+    }

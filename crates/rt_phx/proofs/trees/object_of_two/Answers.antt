@@ -1,4 +1,4 @@
 use Rattle.rt_phx.proofs.trees.object_of_two.Goals as goal
 
 pub returns : goal.returns
-returns c = rw (c.new.ensures, c.in_ok-put-2.ensures, c.in_ok-put.ensures, c.new-members.ensures.items)
+returns c = rw (c.object_tree.ensures, c.in_ok-put-2.ensures, c.in_ok-put.ensures, c.new-members.ensures.items)

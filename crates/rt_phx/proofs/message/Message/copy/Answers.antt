@@ -1,4 +1,10 @@
 use Rattle.rt_phx.proofs.message.Message.copy.Goals as goal
 
 pub returns : goal.returns
-returns c = rw (c.in_ok-copy.ensures, c.in_ok-copy-2.ensures, c.in_ok-copy-3.ensures, c.in_ok-copy-4.ensures, c.in_ok-copy-5.ensures)
+returns c = rw (
+  c.in_ok-copy.ensures,
+  c.in_ok-copy-2.ensures,
+  c.in_ok-copy-3.ensures,
+  c.in_ok-copy-4.ensures,
+  c.in_ok-copy-5.ensures,
+)

@@ -6,4 +6,5 @@ use Rattle.rt_phx.proofs.parts.Parts.among.Goals as goal
 
 pub loop-member-preserved : goal.loop-member-preserved
 loop-member-preserved c =
-    c.with-parts.ensures ∙ ap (λ (p : Parts). parts_with p c.in-Some.member) c.loop-member.invariant ∙ sym (among_more c.loop-member.yielded c.in-Some.member)
+    c.with-parts.ensures ∙ ap (λ (p : Parts). parts_with p c.in-Some.member) c.loop-member.invariant
+    ∙ sym (among_more c.loop-member.yielded c.in-Some.member)

@@ -1,9 +1,10 @@
-//! Small JSON trees. What can fail here fails for want of memory alone.
+//! Small trees, built part by part. What can fail here fails for want of memory alone.
 ghost use Rattle.std.specs.Prelude.{◌≡◌, ◌++◌, ◌∷◌, [], IfOk, OnOk};
 ghost use Rattle.std.specs.Fmt.{decimal};
 ghost use Rattle.rt_json.specs.Trees.{field};
 
-use rt_json::{Json, Member};
+use crate::tree::Json;
+use crate::tree::named::Member;
 use rt_value::{List, Text};
 use std::alloc::{AllocError, Global};
 
@@ -15,7 +16,7 @@ pub fn text_tree(alloc: Global, text: &str) -> Result<Json, AllocError>
 }
 
 /// A number, in decimal digits.
-pub fn number_tree(alloc: Global, number: u32) -> Result<Json, AllocError>
+pub fn number_tree(alloc: Global, number: u64) -> Result<Json, AllocError>
     ensures { IfOk result (λ tree. tree ≡ Json.Num (decimal number)) }
 {
     Ok(Json::Num(Text::new(format!(in alloc; "{number}")?)))
