@@ -6,7 +6,7 @@ use denote.Param.SendFields.{as_row_send, as_row_sync}
 use Rattle.rt_value.specs.contracts.bytes.Bytes as Bytes
 use Rattle.rt_value.specs.contracts.claims.Claims as Claims
 use Rattle.rt_value.proofs.Crossing.{List-send, List-sync, Shared-send, Shared-sync}
-use Rattle.rt_value.proofs.Variants.{enum_sends, enum_syncs}
+use Rattle.rt_entry.proofs.Variants.{enum_sends, enum_syncs}
 use Rattle.rt_phx.specs.contracts.end.EndName as EndName
 use Rattle.rt_phx.specs.contracts.message.Message as Message
 use Rattle.rt_phx.specs.contracts.message.Posting as Posting
@@ -42,11 +42,35 @@ module _ (version : Crosses Version.the_row) (name : Crosses EndName.the_row) (m
   pub Entry-send : IsSend Entry.the_row
   Entry-send =
       enum_sends Entry.the_type _ (λ d. refl)
-      (search (wholes, version.0, name.0, message.0, change.0, change.1, tables.0, tables.1, subscriptions.0,
-      subscriptions.1, view.0, view.1) depth 10)
+      (search (
+        wholes,
+        version.0,
+        name.0,
+        message.0,
+        change.0,
+        change.1,
+        tables.0,
+        tables.1,
+        subscriptions.0,
+        subscriptions.1,
+        view.0,
+        view.1,
+      ) depth 10)
 
   pub Entry-sync : IsSync Entry.the_row
   Entry-sync =
       enum_syncs Entry.the_type _ (λ d. refl)
-      (search (wholes, version.1, name.1, message.1, change.0, change.1, tables.0, tables.1, subscriptions.0,
-      subscriptions.1, view.0, view.1) depth 10)
+      (search (
+        wholes,
+        version.1,
+        name.1,
+        message.1,
+        change.0,
+        change.1,
+        tables.0,
+        tables.1,
+        subscriptions.0,
+        subscriptions.1,
+        view.0,
+        view.1,
+      ) depth 10)

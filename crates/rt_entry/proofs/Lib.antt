@@ -15,3 +15,4 @@ pub mod Sound
 pub mod Stops
 pub mod Tracked
 pub mod Unique
+pub mod Variants

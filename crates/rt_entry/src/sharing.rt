@@ -1,11 +1,11 @@
-use crate::{ChannelView, Item};
-use rt_value::may_share;
-
 ghost use Rattle.std.specs.Thread.{IsSend, IsSync};
 ghost use Rattle.rt_entry.specs.contracts.answer.Item as item;
 ghost use Rattle.rt_entry.specs.contracts.entry.ChannelView as channel_view;
 ghost use Rattle.rt_entry.specs.contracts.entry.Entry as entry;
 ghost use Rattle.rt_entry.specs.contracts.input.Input as input;
+
+use crate::{ChannelView, Item};
+use rt_value::may_share;
 
 /// Each type of this crate that stands in what threads hand one another may be given to a thread,
 /// and shared by threads.
