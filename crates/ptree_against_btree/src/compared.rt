@@ -95,6 +95,12 @@ impl Compared {
         self.note(same);
     }
 
+    /// Compares the walks from the key on.
+    pub fn walk_from(&mut self, from: u32) {
+        let same = has_rest(&self.tree, &self.map, from);
+        self.note(same);
+    }
+
     pub fn take_snapshot(&mut self) -> Result<(), AllocError> {
         let snapshot = self.tree.snapshot()?;
         let entries = entries_of(self.alloc, &self.map)?;
@@ -150,4 +156,18 @@ fn holds(tree: &Tree<u32, u32>, entries: &[(u32, u32)]) -> bool {
         }
     }
     next.is_none() && tree.len() == entries.len()
+}
+
+// Whether a walk of the tree from the key on gives what the map has there, and no more.
+fn has_rest(tree: &Tree<u32, u32>, map: &BTreeMap<u32, u32>, from: u32) -> bool {
+    let mut walk = tree.entries_from(&from);
+    for (key, value) in map {
+        if *key >= from {
+            match walk.next() {
+                Some((k, v)) if k == key && v == value => {}
+                _ => return false,
+            }
+        }
+    }
+    walk.next().is_none()
 }

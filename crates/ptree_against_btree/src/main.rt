@@ -1,10 +1,11 @@
 //! Inserts and removals in a fixed pseudorandom order, on a `Tree` and on std's `BTreeMap` side by side.
 //!
 //! Prints how much was done and how often the two differed. A snapshot is taken every 1,000 steps, and
-//! each is walked at the end against what the map held when it was taken.
+//! each is walked at the end against what the map held when it was taken. A worked example stands before.
 #![tactic(auto)]
 
 mod compared;
+mod worked;
 
 use compared::Compared;
 use rand_core::utils::NextWord;
@@ -56,12 +57,15 @@ fn run(alloc: Global) -> Result<Compared, AllocError> {
         both.look_up((word >> 4) % KEYS);
         if step % SNAPSHOT_EVERY == SNAPSHOT_EVERY - 1 {
             both.take_snapshot()?;
+            both.walk_from((word >> 6) % KEYS);
         }
     }
     Ok(both)
 }
 
 fn main(rt: HostRuntime) -> io::Result<()> {
+    let worked = worked::example(rt.alloc())?;
+    println!(rt; "{worked}")?;
     let both = run(rt.alloc())?;
     let counts = both.counts();
     let inserted = counts.inserted;

@@ -1,5 +1,5 @@
 -- Entries whose keys rise, under a total order.
-use Rattle.std.proofs.Common.{◌≡◌, ◌+◌, Some, false, true, List, [], ◌∷◌, ◌++◌, length, slice_get, is_some, refl, ap, ◌∙◌, arith, if◌then◌else◌}
+use Rattle.std.proofs.Common.{◌≡◌, ℕ, ◌+◌, ◌-◌, Bool, Some, false, true, List, [], ◌∷◌, ◌++◌, length, is_some, refl, ap, ◌∙◌, arith, if◌then◌else◌}
 use Rattle.std.specs.declared.cmp.Ordering.{Ordering}
 use Rattle.std.specs.declared.cmp.Ordering.TheVariants.{Less, Equal, Greater}
 use Rattle.std.specs.BTreeMap.{insert_entry}
@@ -7,8 +7,12 @@ use Rattle.std.specs.Cmp.{IsTotalOrder}
 use Rattle.std.specs.List.{AllByRecursion}
 use Rattle.std.specs.List.Sorted.{IsStrictlySortedBy}
 use Rattle.std.specs.Map.{keys_of}
-use Rattle.std.specs.Ordering.{is_lt, is_eq, match_ordering, ordering_reverse}
-use Rattle.rt_ptree.specs.Entries.{IsRising, IsBelow, IsAbove, value_at, without_key}
+use Rattle.std.specs.Ordering.{is_gt, is_lt, is_eq, match_ordering, ordering_reverse}
+use Rattle.std.specs.Arc.{arc_value}
+use Rattle.rt_ptree.specs.declared.change.Change.{Change}
+use Rattle.rt_ptree.specs.declared.change.Change.TheVariants.{Put, Take}
+use Rattle.rt_ptree.specs.Change.{change_key, changed}
+use Rattle.rt_ptree.specs.Entries.{IsRising, IsBelow, IsAbove, value_at, least_key, without_key}
 use Rattle.rt_ptree.proofs.Middle.{value_at-above}
 
 is_lt_true : (r : Ordering) → is_lt r ≡ true → r ≡ Less
@@ -16,16 +20,21 @@ is_lt_true Less h = refl
 is_lt_true Equal h = cc
 is_lt_true Greater h = cc
 
+is_gt_true : (r : Ordering) → is_gt r ≡ true → r ≡ Greater
+is_gt_true Less h = cc
+is_gt_true Equal h = cc
+is_gt_true Greater h = refl
+
 module _ {K V : Type 0} where
   all_left : (P : K → Type 0) (a b : List (K × V)) → AllByRecursion P (keys_of (a ++ b)) → AllByRecursion P (keys_of a)
   all_left P [] b all = tt
   all_left P (e ∷ a) b all = (all.0, all_left P a b all.1)
 
-  -- what holds of all keys holds of the first of the second list
-  all_first : (P : K → Type 0) (a b : List (K × V)) (e : K × V) → AllByRecursion P (keys_of (a ++ b)) → slice_get b 0 ≡ Some e → P e.0
-  all_first P [] [] e all first = cc
-  all_first P [] (x ∷ b) e all first = let same : x ≡ e = cc in rw (← same) all.0
-  all_first P (x ∷ a) b e all first = all_first P a b e all.1 first
+  -- what holds of all keys holds of the least of the second list
+  all_least : (P : K → Type 0) (a b : List (K × V)) (l : K) → AllByRecursion P (keys_of (a ++ b)) → least_key b ≡ Some l → P l
+  all_least P [] [] l all least = cc
+  all_least P [] (x ∷ b) l all least = let same : x.0 ≡ l = cc in rw (← same) all.0
+  all_least P (x ∷ a) b l all least = all_least P a b l all.1 least
 
   module _ (cmp : K → K → Ordering) where
     pub IsRising-left : (a b : List (K × V)) → IsRising cmp (a ++ b) → IsRising cmp a
@@ -88,6 +97,25 @@ module _ {K : Type 0} {cmp : K → K → Ordering} (o : IsTotalOrder cmp) where
       through Equal is h = o.congr k q x is ∙ above-below x q less
       through Greater is h = above-below x k (o.trans x q k less (below-above k q is))
 
+module _ {K V : Type 0} (cmp : K → K → Ordering) where
+  -- an insertion above the least key leaves it
+  insert-keeps_least : (k l : K) (v : V) (es : List (K × V)) → least_key es ≡ Some l → cmp k l ≡ Greater → least_key (insert_entry cmp es k v) ≡ Some l
+  insert-keeps_least k l v [] least greater = cc
+  insert-keeps_least k l v (x ∷ es) least greater =
+      let same : l ≡ x.0 = cc in
+      rw (rw same at greater) least
+
+  without-keeps_least : (k l : K) (es : List (K × V)) → least_key es ≡ Some l → cmp k l ≡ Greater → least_key (without_key cmp es k) ≡ Some l
+  without-keeps_least k l [] least greater = cc
+  without-keeps_least k l (x ∷ es) least greater =
+      let same : l ≡ x.0 = cc in
+      rw (rw same at greater) least
+
+  -- and so does a change
+  pub changed-keeps_least : (c : Change K V) (l : K) (es : List (K × V)) → least_key es ≡ Some l → is_gt (cmp (change_key c) l) ≡ true → least_key (changed cmp c es) ≡ Some l
+  changed-keeps_least (Put e) l es least greater = insert-keeps_least (arc_value e.now.key) l (arc_value e.now.value) es least (is_gt_true _ greater)
+  changed-keeps_least (Take k) l es least greater = without-keeps_least k.now l es least (is_gt_true _ greater)
+
 module _ {K V : Type 0} {cmp : K → K → Ordering} (o : IsTotalOrder cmp) where
   above_all : (k q : K) (es : List (K × V)) → cmp k q ≡ Less → AllByRecursion (λ y. cmp q y ≡ Less) (keys_of es) → IsAbove cmp es k
   above_all k q [] less all = tt
@@ -97,21 +125,21 @@ module _ {K V : Type 0} {cmp : K → K → Ordering} (o : IsTotalOrder cmp) wher
   all_above k q [] less all = tt
   all_above k q (e ∷ es) less all = (o.trans k q e.0 less all.0, all_above k q es less all.1)
 
-  -- all keys are above k where the first is
-  pub IsAbove-from_first : (k : K) (es : List (K × V)) (e : K × V) → IsRising cmp es → slice_get es 0 ≡ Some e → is_lt (cmp k e.0) ≡ true → IsAbove cmp es k
+  -- all keys are above k where the least is
+  pub IsAbove-from_least : (k : K) (es : List (K × V)) (l : K) → IsRising cmp es → least_key es ≡ Some l → is_lt (cmp k l) ≡ true → IsAbove cmp es k
   unfolding IsStrictlySortedBy
-  IsAbove-from_first k [] e rising first less = tt
-  IsAbove-from_first k (x ∷ es) e rising first less =
-      let same : e ≡ x = cc in
+  IsAbove-from_least k [] l rising least less = tt
+  IsAbove-from_least k (x ∷ es) l rising least less =
+      let same : l ≡ x.0 = cc in
       let above : cmp k x.0 ≡ Less = is_lt_true _ (rw same at less) in
       (above, above_all k x.0 es above rising.0)
 
-  -- all keys of the first list are below k where the first of the second is not above it
-  pub IsBelow-from_first : (k : K) (a b : List (K × V)) (e : K × V) → IsRising cmp (a ++ b) → slice_get b 0 ≡ Some e → is_lt (cmp k e.0) ≡ false → IsBelow cmp a k
+  -- all keys of the first list are below k where the least of the second is not above it
+  pub IsBelow-from_least : (k : K) (a b : List (K × V)) (l : K) → IsRising cmp (a ++ b) → least_key b ≡ Some l → is_lt (cmp k l) ≡ false → IsBelow cmp a k
   unfolding IsStrictlySortedBy
-  IsBelow-from_first k [] b e rising first not_less = tt
-  IsBelow-from_first k (x ∷ a) b e rising first not_less =
-      (below_through o k e.0 x.0 (all_first _ a b e rising.0 first) not_less, IsBelow-from_first k a b e rising.1 first not_less)
+  IsBelow-from_least k [] b l rising least not_less = tt
+  IsBelow-from_least k (x ∷ a) b l rising least not_less =
+      (below_through o k l x.0 (all_least _ a b l rising.0 least) not_less, IsBelow-from_least k a b l rising.1 least not_less)
 
   put_rises : (k : K) (v : V) (e : K × V) (es : List (K × V)) → IsRising cmp (e ∷ es) → IsRising cmp (insert_entry cmp es k v) → (r : Ordering) → cmp k e.0 ≡ r → IsRising cmp (match_ordering r ((k, v) ∷ e ∷ es) ((e.0, v) ∷ es) (e ∷ insert_entry cmp es k v))
   unfolding IsStrictlySortedBy
@@ -135,3 +163,12 @@ module _ {K V : Type 0} {cmp : K → K → Ordering} (o : IsTotalOrder cmp) wher
   unfolding IsStrictlySortedBy
   length-insert k v [] rising = refl
   length-insert k v (e ∷ es) rising = length-put k v e es rising (length-insert k v es rising.1) (cmp k e.0) refl
+
+-- the count where one entry is put in, and where one is taken away
+pub count-insert : (b : Bool) (n : ℕ) → (if b then n else n + 1) ≡ n + (if b then 0 else 1)
+count-insert true n = omega arith
+count-insert false n = refl
+
+pub count-without : (b : Bool) (n m : ℕ) → m + (if b then 1 else 0) ≡ n → (if b then n - 1 else n) ≡ m
+count-without true n m h = omega (arith, h)
+count-without false n m h = omega (arith, h)

@@ -1,24 +1,41 @@
 -- A list in which pieces stand for one part.
-use Rattle.std.proofs.Common.{◌≡◌, ℕ, ◌+◌, ◌<◌, Result, Ok, Err, OnOk, OnErr, List, ◌++◌, All, length, take, drop, get_or, slice_set, sym, subst, ap, ◌∙◌, flat_map, arith}
+use Rattle.std.proofs.Common.{◌≡◌, ℕ, ◌+◌, ◌<◌, ◌≤◌, Some, Result, Ok, Err, OnErr, zero, suc, List, [], ◌∷◌, ◌++◌, All, length, take, drop, get_or, slice_set, sym, subst, ap, ◌∙◌, flat_map, arith}
 use Rattle.std.specs.declared.cmp.Ordering.{Ordering}
 use Rattle.std.proofs.lemmas.List.{take-set, drop-set-lt, get_or-set_same, length-set}
 use Rattle.std.proofs.lemmas.List.Concat.{flat_map-append}
 use Rattle.std.proofs.lemmas.List.Elements.{All-append, All-take, All-drop}
+use Rattle.std.specs.Arc.{arc_value}
+use Rattle.std.specs.declared.alloc.Global.{Global}
+use Rattle.std.specs.declared.sync.Arc.{Arc}
+use Rattle.rt_ptree.specs.declared.node.Node.{Node}
+use Rattle.rt_ptree.specs.Parts.{node_parts, IsFitNode}
 use Rattle.rt_ptree.specs.declared.change.Change.{Change}
 use Rattle.rt_ptree.specs.declared.part.Pieces.{Pieces}
 use Rattle.rt_ptree.specs.Change.{change_key, changed}
-use Rattle.rt_ptree.specs.Entries.{IsBelow, IsAbove}
+use Rattle.rt_ptree.specs.Entries.{IsBelow, IsAbove, least_key}
 use Rattle.rt_ptree.specs.Pieces.{pieces_list}
 use Rattle.rt_ptree.proofs.Places.{flat_map-at, changed-at}
 
 -- what holds whatever the result
-pub on_ok : {A E : Type 0} {P : Type 0} (r : Result A E) → P → OnOk r P
-on_ok (Ok a) h = h
-on_ok (Err e) h = tt
-
 pub on_err : {A E : Type 0} {P : Type 0} (r : Result A E) → P → OnErr r P
 on_err (Ok a) h = tt
 on_err (Err e) h = h
+
+-- what holds of an element holds of all of its list
+pub All-one : {C : Type 0} (P : C → Type 0) (x : C) → P x → All P (x ∷ [])
+All-one P x h zero d within = h
+All-one P x h (suc k) d within = absurd (omega (arith, within))
+
+-- a node with these parts, and their least key beside them
+pub IsFitNode-from : {K V C : Type 0} (most : ℕ) (entries : C → List (K × V)) (fit : C → Type 0) (a : Arc (Node K C) Global) (parts : List C) (l : K) → node_parts a ≡ parts → arc_value (arc_value a).least ≡ l
+    → 0 < length parts → length parts ≤ most → All fit parts → least_key (flat_map entries parts) ≡ Some l → IsFitNode most entries fit a
+IsFitNode-from most entries fit a parts l is beside some within fits least =
+    record {
+      some = subst (λ ps. 0 < length ps) (sym is) some;
+      within = subst (λ ps. length ps ≤ most) (sym is) within;
+      fits = subst (All fit) (sym is) fits;
+      least = ap (λ ps. least_key (flat_map entries ps)) is ∙ least ∙ ap (λ k. Some k) (sym beside);
+    }
 
 module _ {C : Type 0} (parts : List C) (i : ℕ) (y : C) (within : i < length parts) where
   -- the pieces that stand for y, which was put at i

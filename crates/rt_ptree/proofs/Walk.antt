@@ -7,8 +7,8 @@ use Rattle.std.specs.declared.cmp.Ordering.TheVariants.{Less, Equal, Greater}
 use Rattle.std.specs.Ordering.{is_le}
 use Rattle.rt_ptree.specs.declared.entry.Entry.{Entry}
 use Rattle.rt_ptree.specs.Entries.{IsBelow, IsAbove}
-use Rattle.rt_ptree.specs.Parts.{Leaf, Branch, entry_list, node_list, branch_list}
-use Rattle.rt_ptree.specs.Walk.{entries_from, level_list, left_list}
+use Rattle.rt_ptree.specs.Parts.{Leaf, Branch, Limb, entry_list, leaf_list, branch_list, limb_list}
+use Rattle.rt_ptree.specs.Walk.{entries_from, level_list, behind_list, left_list}
 use Rattle.rt_ptree.proofs.Places.{drop-at, flat_map-at}
 
 module _ {K V : Type 0} (cmp : K → K → Ordering) (k : K) where
@@ -48,12 +48,23 @@ module _ {K V : Type 0} (cmp : K → K → Ordering) (k : K) where
         ap (λ b. cond b (entry_list x) [] ++ flat_map entry_list (drop (i + 1) entries)) (sym above_it)
         ∙ sym (entries_from-at entry_list entries i x within read below above)
 
--- what is left, where the branches and leaves are moved on, and then the leaves and entries
-pub left-moved : {K V : Type 0} (es es' : List (Entry K V)) (ls ls' ls'' : List (Leaf K V)) (bs bs' : List (Branch K V)) → level_list (node_list entry_list) ls' bs' ≡ level_list (node_list entry_list) ls bs → level_list entry_list es' ls'' ≡ level_list entry_list es ls'
-    → left_list es' ls'' bs' ≡ left_list es ls bs
-left-moved {K} {V} es es' ls ls' ls'' bs bs' upper lower =
-    let behind : List (K × V) = flat_map branch_list bs' in
+-- what is left, where the branches and limbs are moved on, and then the leaves and branches
+pub behind-moved : {K V : Type 0} (ls ls' : List (Leaf K V)) (bs bs' bs'' : List (Branch K V)) (ms ms' : List (Limb K V)) → level_list branch_list bs' ms' ≡ level_list branch_list bs ms → level_list leaf_list ls' bs'' ≡ level_list leaf_list ls bs'
+    → behind_list ls' bs'' ms' ≡ behind_list ls bs ms
+behind-moved {K} {V} ls ls' bs bs' bs'' ms ms' upper lower =
+    let behind : List (K × V) = flat_map limb_list ms' in
     ap (λ (xs : List (K × V)). xs ++ behind) lower
-    ∙ append_assoc (flat_map entry_list es) (flat_map (node_list entry_list) ls') behind
-    ∙ ap (λ (xs : List (K × V)). flat_map entry_list es ++ xs) upper
-    ∙ sym (append_assoc (flat_map entry_list es) (flat_map (node_list entry_list) ls) (flat_map branch_list bs))
+    ∙ append_assoc (flat_map leaf_list ls) (flat_map branch_list bs') behind
+    ∙ ap (λ (xs : List (K × V)). flat_map leaf_list ls ++ xs) upper
+    ∙ sym (append_assoc (flat_map leaf_list ls) (flat_map branch_list bs) (flat_map limb_list ms))
+
+-- and then the entries and leaves
+pub left-moved : {K V : Type 0} (es es' : List (Entry K V)) (ls ls' ls'' : List (Leaf K V)) (bs bs' : List (Branch K V)) (ms ms' : List (Limb K V)) → behind_list ls' bs' ms' ≡ behind_list ls bs ms → level_list entry_list es' ls'' ≡ level_list entry_list es ls'
+    → left_list es' ls'' bs' ms' ≡ left_list es ls bs ms
+left-moved {K} {V} es es' ls ls' ls'' bs bs' ms ms' moved same =
+    let behind : List (K × V) = level_list branch_list bs' ms' in
+    ap (λ (xs : List (K × V)). flat_map entry_list es' ++ xs) (append_assoc (flat_map leaf_list ls'') (flat_map branch_list bs') (flat_map limb_list ms'))
+    ∙ sym (append_assoc (flat_map entry_list es') (flat_map leaf_list ls'') behind)
+    ∙ ap (λ (xs : List (K × V)). xs ++ behind) same
+    ∙ append_assoc (flat_map entry_list es) (flat_map leaf_list ls') behind
+    ∙ ap (λ (xs : List (K × V)). flat_map entry_list es ++ xs) (sym (append_assoc (flat_map leaf_list ls') (flat_map branch_list bs') (flat_map limb_list ms')) ∙ moved)

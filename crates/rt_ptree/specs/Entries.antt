@@ -1,5 +1,5 @@
 -- An ordered map as the list of its entries, each a key and its value.
-use Rattle.std.specs.Prelude.{◌≡◌, List, Option, find, option_map, if◌then◌else◌}
+use Rattle.std.specs.Prelude.{◌≡◌, List, Option, find, option_map, slice_get, if◌then◌else◌}
 use Rattle.std.specs.declared.cmp.Ordering.{Ordering}
 use Rattle.std.specs.declared.cmp.Ordering.TheVariants.{Less, Greater}
 use Rattle.std.specs.BTreeMap.{is_at}
@@ -37,6 +37,10 @@ module _ {K V : Type 0} (cmp : K → K → Ordering) where
   -- each key is above k
   abbrev pub IsAbove : List (K × V) → K → Type 0
   IsAbove es k = AllByRecursion (λ e. cmp k e.0 ≡ Less) es
+
+-- the least key, where keys rise
+abbrev pub least_key : {K V : Type 0} → List (K × V) → Option K
+least_key es = option_map (λ e. e.0) (slice_get es 0)
 
 -- the entry that is lent as a pair of references
 abbrev pub entry_lent : {K V : Type 0} → Option (Bor K × Bor V) → Option (K × V)

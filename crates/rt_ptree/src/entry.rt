@@ -1,12 +1,13 @@
-ghost use Rattle.std.specs.Prelude.{◌≡◌, IfOk, OnErr, flat_map};
+ghost use Rattle.std.specs.Prelude.{◌≡◌, IfOk, OnErr, is_some, flat_map};
 ghost use Rattle.std.specs.Arc.{arc_value};
 ghost use Rattle.std.specs.BTreeMap.{insert_entry};
 ghost use Rattle.std.proofs.Math.Facts.{leb_yes};
+ghost use Rattle.rt_ptree.specs.Entries.{value_at};
 ghost use Rattle.rt_ptree.specs.Parts.{entry_list};
 ghost use Rattle.rt_ptree.specs.Pieces.{pieces_list};
 
 use crate::change::Change;
-use crate::part::{Part, Pieces};
+use crate::part::{Made, Part, Pieces};
 use std::alloc::{AllocError, Global};
 use std::cmp::Ordering;
 use std::mem;
@@ -34,19 +35,26 @@ impl<K: Drop, V: Drop> Entry<K, V> {
 
 impl<K: Ord + Drop, V: Drop> Entry<K, V> {
     // Puts the other entry before this one or behind it, or its value in here.
-    fn put(&mut self, other: &Entry<K, V>) -> Result<Pieces<Self>, AllocError>
-        ensures entries { IfOk result (λ p. flat_map entry_list (pieces_list self.new p)
+    fn put(&mut self, other: &Entry<K, V>) -> Result<Made<Self>, AllocError>
+        ensures entries { IfOk result (λ m. flat_map entry_list (pieces_list self.new m.pieces)
             ≡ insert_entry K.cmp (entry_list self.old) (arc_value other.now.key) (arc_value other.now.value)) }
+        ensures was_there { IfOk result (λ m. m.was_there
+            ≡ is_some (value_at K.cmp (entry_list self.old) (arc_value other.now.key))) }
         ensures err { OnErr result (self.new ≡ self.old) }
     {
-        match (*other.key).cmp(&self.key) {
-            Ordering::Less => Ok(Pieces::Two(mem::replace(self, other.shared()?))),
+        let order = (*other.key).cmp(&self.key);
+        let pieces = match order {
+            Ordering::Less => Pieces::Two(mem::replace(self, other.shared()?)),
             Ordering::Equal => {
                 self.value = Arc::try_clone(&other.value)?;
-                Ok(Pieces::One)
+                Pieces::One
             }
-            Ordering::Greater => Ok(Pieces::Two(other.shared()?)),
-        }
+            Ordering::Greater => Pieces::Two(other.shared()?),
+        };
+        Ok(Made {
+            pieces,
+            was_there: order.is_eq(),
+        })
     }
 }
 
@@ -55,9 +63,9 @@ impl<K: Ord + Drop, V: Drop> Part<K, V> for Entry<K, V> {
 
     ghost is_fit = { λ _. Unit {0} };
 
-    const MOST: usize = 32;
+    const MOST: usize = 8;
 
-    ghost MOST = { 32 };
+    ghost MOST = { 8 };
 
     ghost halves = { leb_yes tt };
 
@@ -67,6 +75,10 @@ impl<K: Ord + Drop, V: Drop> Part<K, V> for Entry<K, V> {
 
     fn first(&self) -> (&K, &V) {
         (&self.key, &self.value)
+    }
+
+    fn least(&self) -> &Arc<K> {
+        &self.key
     }
 
     fn get(&self, key: &K) -> Option<&V> {
@@ -87,13 +99,14 @@ impl<K: Ord + Drop, V: Drop> Part<K, V> for Entry<K, V> {
         &mut self,
         _alloc: Global,
         change: &Change<'_, K, V>,
-    ) -> Result<Pieces<Self>, AllocError> {
+    ) -> Result<Made<Self>, AllocError> {
         match *change {
             Change::Put(entry) => self.put(entry),
-            Change::Take(key) => match key.cmp(&self.key) {
-                Ordering::Equal => Ok(Pieces::None),
-                _ => Ok(Pieces::One),
-            },
+            Change::Take(key) => {
+                let was_there = key.cmp(&self.key).is_eq();
+                let pieces = if was_there { Pieces::None } else { Pieces::One };
+                Ok(Made { pieces, was_there })
+            }
         }
     }
 }

@@ -1,9 +1,9 @@
 //! An ordered map whose snapshots share.
 //!
-//! A [`Tree`] has three levels: a list of branches, each a list of at most 128 leaves, each a list of at most
-//! 32 entries in the order of their keys. Every list, key and value stands behind an `Arc`, so a snapshot
-//! shares the lists. A change writes to one leaf, its branch and the list of branches where no snapshot has
-//! them, and makes anew what is shared.
+//! A [`Tree`] has four levels: a list of limbs, each a list of at most 16 branches, each a list of at most 16
+//! leaves, each a list of at most 8 entries in the order of their keys. Every list, key and value stands
+//! behind an `Arc`, so a snapshot shares the lists. A change writes to one leaf and what stands above it
+//! where no snapshot has them, and makes anew what is shared.
 #![tactic(auto)]
 
 mod change;
@@ -11,6 +11,8 @@ mod entry;
 mod node;
 mod part;
 mod parts;
+mod sharing;
 mod tree;
 
+pub use sharing::trees_may_be_shared;
 pub use tree::{Entries, Tree};

@@ -1,62 +1,70 @@
-ghost use Rattle.std.specs.Prelude.{◌≡◌, ◌≤◌, ◌+◌, IfOk, OnErr, All, vec_len, flat_map};
+ghost use Rattle.std.specs.Prelude.{◌≡◌, ◌≤◌, ◌<◌, ◌+◌, IfOk, OnErr, All, vec_len, flat_map};
 ghost use Rattle.std.proofs.Math.Facts.{leb_yes};
-ghost use Rattle.rt_ptree.specs.Parts.{node_list, node_parts, IsFitNode};
+ghost use Rattle.rt_ptree.specs.Parts.{node_list, IsFitNode};
 ghost use Rattle.rt_ptree.specs.Pieces.{pieces_list};
 
 use crate::change::Change;
-use crate::part::{Part, Pieces};
-use crate::parts::{after_in, change_in, copied, first_in, get_in};
+use crate::part::{Made, Part, Pieces};
+use crate::parts::{after_in, change_in, copied, first_in, get_in, least_in};
 use std::alloc::{AllocError, Global};
 use std::sync::Arc;
 
-/// A list of parts: a leaf is one of entries, a branch one of leaves.
+/// A list of parts, and the least key in it: a leaf is one of entries, a branch one of leaves.
 #[derive(Debug, Drop)]
-pub struct Node<C> {
+pub struct Node<K, C> {
+    least: Arc<K>,
     pub parts: Vec<C>,
 }
 
-impl<C: Drop> Node<C> {
-    pub fn shared(alloc: Global, parts: Vec<C>) -> Result<Arc<Self>, AllocError>
-        ensures { IfOk result (λ n. node_parts n ≡ parts.items) }
-    {
-        Ok(Arc::new(alloc, Node { parts })?)
-    }
+// The shared node of these parts.
+pub fn node_of<K: Ord + Drop, V, C: Part<K, V>>(
+    alloc: Global,
+    parts: Vec<C>,
+) -> Result<Arc<Node<K, C>>, AllocError>
+    requires some { 0 < vec_len parts }
+    requires len { vec_len parts ≤ C.MOST }
+    requires fits { All C.is_fit parts.items }
+    ensures entries { IfOk result (λ n. node_list C.entries n ≡ flat_map C.entries parts.items) }
+    ensures fit { IfOk result (IsFitNode C.MOST C.entries C.is_fit) }
+{
+    let least = Arc::try_clone(least_in(&parts))?;
+    Ok(Arc::new(alloc, Node { least, parts })?)
 }
 
 // Puts the list into the place of the node. One that fills a node is cut, so that the halves have room.
-fn replace<K: Ord, V, C: Part<K, V>>(
-    node: &mut Arc<Node<C>>,
+fn replace<K: Ord + Drop, V, C: Part<K, V>>(
+    node: &mut Arc<Node<K, C>>,
     alloc: Global,
     mut parts: Vec<C>,
-) -> Result<Pieces<Arc<Node<C>>>, AllocError>
+) -> Result<Pieces<Arc<Node<K, C>>>, AllocError>
     requires len { vec_len parts ≤ C.MOST + 1 }
     requires fits { All C.is_fit parts.items }
     ensures entries { IfOk result (λ p. flat_map (node_list C.entries) (pieces_list node.new p)
         ≡ flat_map C.entries parts.items) }
-    ensures fits { IfOk result (λ p. All (IsFitNode C.MOST C.is_fit) (pieces_list node.new p)) }
+    ensures fits { IfOk result (λ p. All (IsFitNode C.MOST C.entries C.is_fit) (pieces_list node.new p)) }
     ensures err { OnErr result (node.new ≡ node.old) }
 {
     if parts.is_empty() {
         return Ok(Pieces::None);
     }
     if parts.len() < C::MOST {
-        *node = Node::shared(alloc, parts)?;
+        *node = node_of(alloc, parts)?;
         return Ok(Pieces::One);
     }
     let upper = parts.split_off(parts.len() / 2)?;
-    let upper = Node::shared(alloc, upper)?;
-    *node = Node::shared(alloc, parts)?;
+    let upper = node_of(alloc, upper)?;
+    *node = node_of(alloc, parts)?;
     Ok(Pieces::Two(upper))
 }
 
-impl<K: Ord, V, C: Part<K, V>> Part<K, V> for Arc<Node<C>> {
+impl<K: Ord + Drop, V, C: Part<K, V>> Part<K, V> for Arc<Node<K, C>> {
     ghost entries = { node_list C.entries };
 
-    ghost is_fit = { IsFitNode C.MOST C.is_fit };
+    ghost is_fit = { IsFitNode C.MOST C.entries C.is_fit };
 
-    const MOST: usize = 128;
+    const MOST: usize = 16;
 
-    ghost MOST = { 128 };
+    ghost MOST = { 16 };
 
     ghost halves = { leb_yes tt };
 
@@ -66,6 +74,10 @@ impl<K: Ord, V, C: Part<K, V>> Part<K, V> for Arc<Node<C>> {
 
     fn first(&self) -> (&K, &V) {
         first_in(&self.parts)
+    }
+
+    fn least(&self) -> &Arc<K> {
+        &self.least
     }
 
     fn get(&self, key: &K) -> Option<&V> {
@@ -80,19 +92,20 @@ impl<K: Ord, V, C: Part<K, V>> Part<K, V> for Arc<Node<C>> {
         &mut self,
         alloc: Global,
         change: &Change<'_, K, V>,
-    ) -> Result<Pieces<Self>, AllocError> {
+    ) -> Result<Made<Self>, AllocError> {
         if let Some(node) = Arc::get_mut(self) {
-            if node.parts.len() < C::MOST {
-                change_in(alloc, &mut node.parts, change)?;
-                return if node.parts.is_empty() {
-                    Ok(Pieces::None)
-                } else {
-                    Ok(Pieces::One)
-                };
+            // A change above the least key leaves it.
+            if node.parts.len() < C::MOST && change.key().cmp(&node.least).is_gt() {
+                let was_there = change_in(alloc, &mut node.parts, change)?;
+                return Ok(Made {
+                    pieces: Pieces::One,
+                    was_there,
+                });
             }
         }
         let mut parts = copied(alloc, &self.parts)?;
-        change_in(alloc, &mut parts, change)?;
-        replace(self, alloc, parts)
+        let was_there = change_in(alloc, &mut parts, change)?;
+        let pieces = replace(self, alloc, parts)?;
+        Ok(Made { pieces, was_there })
     }
 }

@@ -1,10 +1,12 @@
-ghost use Rattle.std.specs.Prelude.{◌≡◌, ◌≤◌, ℕ, List, All, IfOk, OnErr, Some, slice_get, option_copied, flat_map};
-ghost use Rattle.rt_ptree.specs.Entries.{IsRising, value_at, entry_after, entry_lent};
-ghost use Rattle.rt_ptree.specs.Change.{changed};
+ghost use Rattle.std.specs.Prelude.{◌≡◌, ◌≤◌, ℕ, List, All, IfOk, OnErr, Some, is_some, slice_get, option_copied, flat_map};
+ghost use Rattle.std.specs.Arc.{arc_value};
+ghost use Rattle.rt_ptree.specs.Entries.{IsRising, value_at, least_key, entry_after, entry_lent};
+ghost use Rattle.rt_ptree.specs.Change.{change_key, changed};
 ghost use Rattle.rt_ptree.specs.Pieces.{pieces_list};
 
 use crate::change::Change;
 use std::alloc::{AllocError, Global};
+use std::sync::Arc;
 
 /// What stands in the place of a part after a change: nothing where it became empty, the part itself, or
 /// the part and a second one behind it.
@@ -13,6 +15,13 @@ pub enum Pieces<P> {
     None,
     One,
     Two(P),
+}
+
+/// What a change made of a part, and whether an entry stood at its key.
+#[derive(Drop)]
+pub struct Made<P> {
+    pub pieces: Pieces<P>,
+    pub was_there: bool,
 }
 
 /// What a list of the tree holds: an entry, or a shared list of parts.
@@ -40,6 +49,10 @@ pub trait Part<K: Ord, V>: Drop {
         requires { is_fit self.now }
         ensures { slice_get (entries self.now) 0 ≡ Some (result.0.now, result.1.now) };
 
+    fn least(&self) -> &Arc<K>
+        requires { is_fit self.now }
+        ensures { least_key (entries self.now) ≡ Some (arc_value result.now) };
+
     fn get(&self, key: &K) -> Option<&V>
         requires fit { is_fit self.now }
         requires rising { IsRising K.cmp (entries self.now) }
@@ -52,16 +65,14 @@ pub trait Part<K: Ord, V>: Drop {
         ensures { entry_lent result ≡ entry_after K.cmp (entries self.now) key.now };
 
     // Makes the change, in place where no list has another owner. Answers what stands for the part then.
-    fn change(
-        &mut self,
-        alloc: Global,
-        change: &Change<'_, K, V>,
-    ) -> Result<Pieces<Self>, AllocError>
+    fn change(&mut self, alloc: Global, change: &Change<'_, K, V>) -> Result<Made<Self>, AllocError>
         requires fit { is_fit self.old }
         requires rising { IsRising K.cmp (entries self.old) }
-        ensures entries { IfOk result (λ p. flat_map entries (pieces_list self.new p)
+        ensures entries { IfOk result (λ m. flat_map entries (pieces_list self.new m.pieces)
             ≡ changed K.cmp change.now (entries self.old)) }
-        ensures fits { IfOk result (λ p. All is_fit (pieces_list self.new p)) }
+        ensures was_there { IfOk result (λ m. m.was_there
+            ≡ is_some (value_at K.cmp (entries self.old) (change_key change.now))) }
+        ensures fits { IfOk result (λ m. All is_fit (pieces_list self.new m.pieces)) }
         ensures err { OnErr result (entries self.new ≡ entries self.old) }
         ensures err_fit { OnErr result (is_fit self.new) };
 }

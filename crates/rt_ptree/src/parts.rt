@@ -1,12 +1,24 @@
-ghost use Rattle.std.specs.Prelude.{◌≡◌, ◌+◌, ◌<◌, ◌≤◌, ◌++◌, IfOk, IsOk, OnOk, OnErr, All, Some, length, take, drop, get_or, vec_len, vec_capacity, slice_get, option_copied, flat_map};
-ghost use Rattle.rt_ptree.specs.Change.{changed};
-ghost use Rattle.rt_ptree.specs.Entries.{IsRising, IsBelow, IsAbove, value_at, entry_after, entry_lent};
+ghost use Rattle.std.specs.Prelude.{◌≡◌, ◌+◌, ◌<◌, ◌≤◌, ◌++◌, IfOk, OnOk, OnErr, All, Some, is_some, length, take, drop, get_or, vec_len, vec_capacity, slice_get, option_copied, flat_map};
+ghost use Rattle.std.specs.Arc.{arc_value};
+ghost use Rattle.rt_ptree.specs.Change.{change_key, changed};
+ghost use Rattle.rt_ptree.specs.Entries.{IsRising, IsBelow, IsAbove, value_at, least_key, entry_after, entry_lent};
 ghost use Rattle.rt_ptree.specs.Orderly.{IsOrderly};
 ghost use Rattle.rt_ptree.specs.Pieces.{pieces_list};
 
 use crate::change::Change;
 use crate::part::{Part, Pieces};
 use std::alloc::{AllocError, Global};
+use std::sync::Arc;
+
+// How far above `low` the next part to be looked at is. So few parts that the processor reads on while
+// it compares are gone through one by one.
+fn step(parts: usize) -> usize
+    requires { 1 < parts }
+    ensures forward { 0 < result }
+    ensures within { result < parts }
+{
+    if parts > 8 { parts / 2 } else { 1 }
+}
 
 // Where the key belongs: at the last part that does not begin above it, or else at the first part.
 pub fn place<K: Ord, V, C: Part<K, V>>(parts: &[C], key: &K) -> usize
@@ -18,8 +30,8 @@ pub fn place<K: Ord, V, C: Part<K, V>>(parts: &[C], key: &K) -> usize
     let mut low = 0;
     let mut high = parts.len();
     while high - low > 1 {
-        let middle = low + (high - low) / 2;
-        if key.cmp(parts[middle].first().0).is_lt() {
+        let middle = low + step(high - low);
+        if key.cmp(parts[middle].least()).is_lt() {
             high = middle;
         } else {
             low = middle;
@@ -34,6 +46,14 @@ pub fn first_in<K: Ord, V, C: Part<K, V>>(parts: &[C]) -> (&K, &V)
     ensures { slice_get (flat_map C.entries parts.now) 0 ≡ Some (result.0.now, result.1.now) }
 {
     parts[0].first()
+}
+
+pub fn least_in<K: Ord, V, C: Part<K, V>>(parts: &[C]) -> &Arc<K>
+    requires some { 0 < length parts.now }
+    requires fits { All C.is_fit parts.now }
+    ensures { least_key (flat_map C.entries parts.now) ≡ Some (arc_value result.now) }
+{
+    parts[0].least()
 }
 
 pub fn get_in<'a, K: Ord, V, C: Part<K, V>>(parts: &'a [C], key: &K) -> Option<&'a V>
@@ -83,11 +103,10 @@ pub fn copied<K: Ord, V, C: Part<K, V>>(alloc: Global, parts: &[C]) -> Result<Ve
 }
 
 // Has the pieces stand for the part at `at`.
-fn settle<C: Drop>(parts: &mut Vec<C>, at: usize, pieces: Pieces<C>) -> Result<(), AllocError>
+fn settle<C: Drop>(parts: &mut Vec<C>, at: usize, pieces: Pieces<C>)
     requires within { at < vec_len parts.old }
     requires room { vec_len parts.old < vec_capacity parts.old }
-    ensures ok { IsOk result }
-    ensures items { (part : C) → part ≡ get_or parts.old.items at part →
+    ensures { (part : C) → part ≡ get_or parts.old.items at part →
         parts.new.items ≡ take at parts.old.items ++ (pieces_list part pieces ++ drop (at + 1) parts.old.items) }
 {
     match pieces {
@@ -95,20 +114,24 @@ fn settle<C: Drop>(parts: &mut Vec<C>, at: usize, pieces: Pieces<C>) -> Result<(
             parts.remove(at);
         }
         Pieces::One => {}
-        Pieces::Two(upper) => parts.insert(at + 1, upper)?,
+        Pieces::Two(upper) => {
+            // It cannot fail, as there is room.
+            let _ = parts.insert(at + 1, upper);
+        }
     }
-    Ok(())
 }
 
-/// Makes the change in the list, in place but for what is shared.
+/// Makes the change in the list, in place but for what is shared. Answers whether the key was there.
 pub fn change_in<K: Ord, V, C: Part<K, V>>(
     alloc: Global,
     parts: &mut Vec<C>,
     change: &Change<'_, K, V>,
-) -> Result<(), AllocError>
+) -> Result<bool, AllocError>
     requires { IsOrderly K.cmp C.entries C.is_fit parts.old.items }
     ensures entries { OnOk result (flat_map C.entries parts.new.items
         ≡ changed K.cmp change.now (flat_map C.entries parts.old.items)) }
+    ensures was_there { IfOk result (λ b. b
+        ≡ is_some (value_at K.cmp (flat_map C.entries parts.old.items) (change_key change.now))) }
     ensures fits { All C.is_fit parts.new.items }
     ensures len { vec_len parts.new ≤ vec_len parts.old + 1 }
     ensures err { OnErr result (flat_map C.entries parts.new.items
@@ -118,6 +141,7 @@ pub fn change_in<K: Ord, V, C: Part<K, V>>(
     // All memory comes before the first write.
     parts.reserve(1)?;
     let at = place(parts, change.key());
-    let pieces = parts[at].change(alloc, change)?;
-    settle(parts, at, pieces)
+    let made = parts[at].change(alloc, change)?;
+    settle(parts, at, made.pieces);
+    Ok(made.was_there)
 }

@@ -1,25 +1,27 @@
-ghost use Rattle.std.specs.Prelude.{◌≡◌, ◌+◌, ◌<◌, ◌≤◌, [], ◌∷◌, All, IfOk, IfErr, OnOk, OnErr, Ok, Some, None, false, true, IsTrue, ◌↔◌, is_some, length, vec_len, slice_get, option_copied, flat_map, if◌then◌else◌};
+ghost use Rattle.std.specs.Prelude.{◌≡◌, ◌<◌, [], ◌∷◌, All, IfOk, IfErr, OnOk, OnErr, Ok, Some, None, false, true, IsTrue, ◌↔◌, is_some, length, vec_len, slice_get, option_copied, flat_map, if◌then◌else◌};
 ghost use Rattle.std.specs.Arc.{arc_value};
 ghost use Rattle.std.specs.BTreeMap.{insert_entry};
-ghost use Rattle.rt_ptree.specs.Change.{changed};
+ghost use Rattle.rt_ptree.specs.Change.{change_key, changed};
 ghost use Rattle.rt_ptree.specs.Entries.{IsRising, Updates, value_at, entry_after, without_key, entry_lent};
 ghost use Rattle.rt_ptree.specs.Orderly.{IsOrderly};
-ghost use Rattle.rt_ptree.specs.Parts.{branch_list, tree_list, IsFitBranch, IsFitTree};
+ghost use Rattle.rt_ptree.specs.Parts.{limb_list, tree_list, IsFitLimb, IsFitTree};
 
 mod walk;
 
 use crate::change::Change;
 use crate::entry::Entry;
-use crate::node::Node;
+use crate::node::{Node, node_of};
 use crate::parts::{after_in, change_in, copied, first_in, get_in};
 use std::alloc::{AllocError, Global};
 use std::marker::Model;
 use std::sync::Arc;
 pub use walk::Entries;
 
-type Leaf<K, V> = Arc<Node<Entry<K, V>>>;
+type Leaf<K, V> = Arc<Node<K, Entry<K, V>>>;
 
-type Branch<K, V> = Arc<Node<Leaf<K, V>>>;
+type Branch<K, V> = Arc<Node<K, Leaf<K, V>>>;
+
+type Limb<K, V> = Arc<Node<K, Branch<K, V>>>;
 
 /// An ordered map whose snapshots share.
 ///
@@ -27,7 +29,7 @@ type Branch<K, V> = Arc<Node<Leaf<K, V>>>;
 /// stays, as in std's `BTreeMap`.
 #[derive(Debug, Drop)]
 pub struct Tree<K: Ord, V> {
-    branches: Option<Arc<Vec<Branch<K, V>>>>,
+    limbs: Option<Arc<Vec<Limb<K, V>>>>,
     count: usize,
     alloc: Global,
 }
@@ -42,9 +44,9 @@ impl<K: Ord, V> Model for Tree<K, V> {
 
     ghost use Rattle.rt_ptree.specs.Parts.{tree_list, IsWellFormed};
 
-    ghost view = { λ t. tree_list t.branches };
+    ghost view = { λ t. tree_list t.limbs };
 
-    ghost invariant = { λ t. IsWellFormed K.cmp t.branches t.count };
+    ghost invariant = { λ t. IsWellFormed K.cmp t.limbs t.count };
 }
 
 impl<K: Ord, V> Tree<K, V> {
@@ -53,7 +55,7 @@ impl<K: Ord, V> Tree<K, V> {
         ensures { result ≡ [] }
     {
         Tree {
-            branches: None,
+            limbs: None,
             count: 0,
             alloc,
         }
@@ -79,12 +81,12 @@ impl<K: Ord, V> Tree<K, V> {
     pub fn snapshot(&self) -> Result<Self, AllocError>
         ensures { IfOk result (λ t. t ≡ self.now) }
     {
-        let branches = match &self.branches {
-            Some(branches) => Some(Arc::try_clone(branches)?),
+        let limbs = match &self.limbs {
+            Some(limbs) => Some(Arc::try_clone(limbs)?),
             None => None,
         };
         Ok(Tree {
-            branches,
+            limbs,
             count: self.len(),
             alloc: self.alloc,
         })
@@ -96,8 +98,8 @@ impl<K: Ord + Drop, V: Drop> Tree<K, V> {
     pub fn get(&self, key: &K) -> Option<&V>
         ensures { option_copied result ≡ value_at K.cmp self.now key.now }
     {
-        match &self.branches {
-            Some(branches) => get_in(branches, key),
+        match &self.limbs {
+            Some(limbs) => get_in(limbs, key),
             None => None,
         }
     }
@@ -106,8 +108,8 @@ impl<K: Ord + Drop, V: Drop> Tree<K, V> {
     pub fn first(&self) -> Option<(&K, &V)>
         ensures { entry_lent result ≡ slice_get self.now 0 }
     {
-        match &self.branches {
-            Some(branches) => Some(first_in(branches)),
+        match &self.limbs {
+            Some(limbs) => Some(first_in(limbs)),
             None => None,
         }
     }
@@ -116,8 +118,8 @@ impl<K: Ord + Drop, V: Drop> Tree<K, V> {
     pub fn after(&self, key: &K) -> Option<(&K, &V)>
         ensures { entry_lent result ≡ entry_after K.cmp self.now key.now }
     {
-        match &self.branches {
-            Some(branches) => after_in(branches, key),
+        match &self.limbs {
+            Some(limbs) => after_in(limbs, key),
             None => None,
         }
     }
@@ -148,11 +150,14 @@ impl<K: Ord + Drop, V: Drop> Tree<K, V> {
         ensures absent { is_some (value_at K.cmp self.old key.now) ≡ false → result ≡ Ok false }
         ensures err { OnErr result (self.new ≡ self.old) }
     {
-        if self.get(key).is_none() {
-            return Ok(false);
+        match self.take(key) {
+            Ok(was_there) => Ok(was_there),
+            // Where there is no entry, no memory is wanted.
+            Err(error) => match self.get(key) {
+                Some(_) => Err(error),
+                None => Ok(false),
+            },
         }
-        self.take(key)?;
-        Ok(true)
     }
 
     fn put(&mut self, entry: &Entry<K, V>) -> Result<(), AllocError>
@@ -160,106 +165,109 @@ impl<K: Ord + Drop, V: Drop> Tree<K, V> {
             ≡ insert_entry K.cmp self.old (arc_value entry.now.key) (arc_value entry.now.value)) }
         ensures err { OnErr result (self.new ≡ self.old) }
     {
-        let count = self.len_with(&entry.key)?;
-        change_all(self.alloc, &mut self.branches, &Change::Put(entry))?;
-        self.count = count;
+        // So many entries, which no memory holds, are all that can be counted.
+        if self.count == usize::MAX {
+            return Err(AllocError);
+        }
+        let was_there = change_all(self.alloc, &mut self.limbs, &Change::Put(entry))?;
+        self.count = count_after(was_there, self.count, self.count + 1);
         Ok(())
     }
 
-    // Takes the entry at the key out, which is there.
-    fn take(&mut self, key: &K) -> Result<(), AllocError>
-        requires { is_some (value_at K.cmp self.old key.now) ≡ true }
+    fn take(&mut self, key: &K) -> Result<bool, AllocError>
+        ensures was_there { IfOk result (λ b. b ≡ is_some (value_at K.cmp self.old key.now)) }
         ensures ok { OnOk result (self.new ≡ without_key K.cmp self.old key.now) }
         ensures updates { OnOk result (Updates K.cmp self.old self.new key.now None) }
         ensures err { OnErr result (self.new ≡ self.old) }
     {
-        let count = self.len() - 1;
-        change_all(self.alloc, &mut self.branches, &Change::Take(key))?;
-        self.count = count;
-        Ok(())
-    }
-
-    // How many entries there are with one at the key. A map of `usize::MAX` entries, which no
-    // memory holds, is full.
-    fn len_with(&self, key: &K) -> Result<usize, AllocError>
-        ensures { IfOk result (λ n. n
-            ≡ length self.now + (if is_some (value_at K.cmp self.now key.now) then 0 else 1)) }
-    {
-        match self.get(key) {
-            Some(_) => Ok(self.len()),
-            None => self.len().checked_add(1).ok_or(AllocError),
-        }
+        let was_there = change_all(self.alloc, &mut self.limbs, &Change::Take(key))?;
+        self.count = count_after(was_there, self.count.saturating_sub(1), self.count);
+        Ok(was_there)
     }
 }
 
-// Makes the change in the list of branches, in place where it has no other owner. Answers whether
-// none is left.
-fn change_branches<K: Ord + Drop, V: Drop>(
-    alloc: Global,
-    branches: &mut Arc<Vec<Branch<K, V>>>,
-    change: &Change<'_, K, V>,
-) -> Result<bool, AllocError>
-    requires { IsOrderly K.cmp branch_list IsFitBranch (arc_value branches.old).items }
-    ensures entries { OnOk result (flat_map branch_list (arc_value branches.new).items
-        ≡ changed K.cmp change.now (flat_map branch_list (arc_value branches.old).items)) }
-    ensures emptied { IfOk result (λ none. IsTrue none ↔ ((arc_value branches.new).items ≡ [])) }
-    ensures fits { All IsFitBranch (arc_value branches.new).items }
-    ensures err { OnErr result (flat_map branch_list (arc_value branches.new).items
-        ≡ flat_map branch_list (arc_value branches.old).items) }
-    ensures err_some { OnErr result (0 < length (arc_value branches.new).items) }
+// How many entries there are after a change, where one stood at its key and where none did.
+fn count_after(was_there: bool, with: usize, without: usize) -> usize
+    ensures { result ≡ (if was_there then with else without) }
 {
-    if let Some(list) = Arc::get_mut(branches) {
-        change_in(alloc, list, change)?;
-        return Ok(list.is_empty());
-    }
-    let mut list = copied(alloc, branches)?;
-    change_in(alloc, &mut list, change)?;
-    let none = list.is_empty();
-    *branches = Arc::new(alloc, list)?;
-    Ok(none)
+    if was_there { with } else { without }
 }
 
-// Makes the change in a map that may have no branches, before or behind it.
+// Makes the change in the list of limbs, in place where it has no other owner. Answers whether the key was
+// there, and whether no limb is left.
+fn change_limbs<K: Ord + Drop, V: Drop>(
+    alloc: Global,
+    limbs: &mut Arc<Vec<Limb<K, V>>>,
+    change: &Change<'_, K, V>,
+) -> Result<(bool, bool), AllocError>
+    requires { IsOrderly K.cmp limb_list IsFitLimb (arc_value limbs.old).items }
+    ensures entries { OnOk result (flat_map limb_list (arc_value limbs.new).items
+        ≡ changed K.cmp change.now (flat_map limb_list (arc_value limbs.old).items)) }
+    ensures was_there { IfOk result (λ r. r.0
+        ≡ is_some (value_at K.cmp (flat_map limb_list (arc_value limbs.old).items) (change_key change.now))) }
+    ensures emptied { IfOk result (λ r. IsTrue r.1 ↔ ((arc_value limbs.new).items ≡ [])) }
+    ensures fits { All IsFitLimb (arc_value limbs.new).items }
+    ensures err { OnErr result (flat_map limb_list (arc_value limbs.new).items
+        ≡ flat_map limb_list (arc_value limbs.old).items) }
+    ensures err_some { OnErr result (0 < length (arc_value limbs.new).items) }
+{
+    if let Some(list) = Arc::get_mut(limbs) {
+        let was_there = change_in(alloc, list, change)?;
+        return Ok((was_there, list.is_empty()));
+    }
+    let mut list = copied(alloc, limbs)?;
+    let was_there = change_in(alloc, &mut list, change)?;
+    let is_empty = list.is_empty();
+    *limbs = Arc::new(alloc, list)?;
+    Ok((was_there, is_empty))
+}
+
+// Makes the change in a map that may have no limbs, before or behind it.
 fn change_all<K: Ord + Drop, V: Drop>(
     alloc: Global,
-    branches: &mut Option<Arc<Vec<Branch<K, V>>>>,
+    limbs: &mut Option<Arc<Vec<Limb<K, V>>>>,
     change: &Change<'_, K, V>,
-) -> Result<(), AllocError>
-    requires fits { IsFitTree branches.old }
-    requires rising { IsRising K.cmp (tree_list branches.old) }
-    ensures entries { OnOk result (tree_list branches.new
-        ≡ changed K.cmp change.now (tree_list branches.old)) }
-    ensures fits { IsFitTree branches.new }
-    ensures err { OnErr result (tree_list branches.new ≡ tree_list branches.old) }
+) -> Result<bool, AllocError>
+    requires fits { IsFitTree limbs.old }
+    requires rising { IsRising K.cmp (tree_list limbs.old) }
+    ensures entries { OnOk result (tree_list limbs.new
+        ≡ changed K.cmp change.now (tree_list limbs.old)) }
+    ensures was_there { IfOk result (λ b. b
+        ≡ is_some (value_at K.cmp (tree_list limbs.old) (change_key change.now))) }
+    ensures fits { IsFitTree limbs.new }
+    ensures err { OnErr result (tree_list limbs.new ≡ tree_list limbs.old) }
 {
-    match branches {
+    match limbs {
         Some(list) => {
-            if change_branches(alloc, list, change)? {
-                *branches = None;
+            let (was_there, is_empty) = change_limbs(alloc, list, change)?;
+            if is_empty {
+                *limbs = None;
             }
+            Ok(was_there)
         }
         None => {
             if let Change::Put(entry) = *change {
-                *branches = Some(Arc::new(alloc, single(alloc, entry)?)?);
+                *limbs = Some(Arc::new(alloc, single(alloc, entry)?)?);
             }
+            Ok(false)
         }
     }
-    Ok(())
 }
 
-// The branches of a map with one entry.
-fn single<K: Drop, V: Drop>(
+// The limbs of a map with one entry.
+fn single<K: Ord + Drop, V: Drop>(
     alloc: Global,
     entry: &Entry<K, V>,
-) -> Result<Vec<Branch<K, V>>, AllocError>
-    ensures entries { IfOk result (λ v. flat_map branch_list v.items
+) -> Result<Vec<Limb<K, V>>, AllocError>
+    ensures entries { IfOk result (λ v. flat_map limb_list v.items
         ≡ (arc_value entry.now.key, arc_value entry.now.value) ∷ []) }
-    ensures fits { IfOk result (λ v. All IsFitBranch v.items) }
+    ensures fits { IfOk result (λ v. All IsFitLimb v.items) }
     ensures some { IfOk result (λ v. 0 < vec_len v) }
 {
-    let leaf = Node::shared(alloc, vec![in alloc; entry.shared()?]?)?;
-    let branch = Node::shared(alloc, vec![in alloc; leaf]?)?;
-    Ok(vec![in alloc; branch]?)
+    let leaf = node_of(alloc, vec![in alloc; entry.shared()?]?)?;
+    let branch = node_of(alloc, vec![in alloc; leaf]?)?;
+    let limb = node_of(alloc, vec![in alloc; branch]?)?;
+    Ok(vec![in alloc; limb]?)
 }
 
 #[cfg(test)]
@@ -267,59 +275,15 @@ mod tests {
     use super::*;
     use std::test::Fail;
 
-    fn put(
-        tree: &mut Tree<u32, u32>,
-        alloc: Global,
-        key: u32,
-        value: u32,
-    ) -> Result<(), AllocError> {
-        let key = Arc::new(alloc, key)?;
-        let value = Arc::new(alloc, value)?;
-        tree.insert(key, value).map_err(|_| AllocError)
-    }
-
-    // The entries from the first on, each found after the one before.
-    fn walk(tree: &Tree<u32, u32>, alloc: Global) -> Result<Vec<(u32, u32)>, AllocError> {
-        let mut entries = Vec::new(alloc);
-        let mut next = tree.first();
-        for _ in 0..tree.len() {
-            if let Some((key, value)) = next {
-                entries.push((*key, *value))?;
-                next = tree.after(key);
-            }
-        }
-        Ok(entries)
-    }
-
-    fn can_share<T: Send + Sync>(_value: &T) {}
-
-    fn can_share_tree<K: Ord + Send + Sync, V: Send + Sync>(tree: &Tree<K, V>) {
-        can_share(tree);
-    }
-
     #[test]
-    fn a_snapshot_keeps_what_it_had(rt: HostRuntime) -> Result<(), Fail> {
+    fn calls_find_their_memory(rt: HostRuntime) -> Result<(), Fail> {
         let mut tree = Tree::new(rt.alloc());
-        assert!(rt; tree.is_empty());
-        for key in 1..4 {
-            put(&mut tree, rt.alloc(), key, 10 * key)?;
-        }
+        let key = Arc::new(rt.alloc(), 1_u8)?;
+        assert!(rt; tree.insert(key, Arc::new(rt.alloc(), 2_u8)?).is_ok());
         let snapshot = tree.snapshot()?;
-        assert!(rt; tree.remove(&2)?);
-        put(&mut tree, rt.alloc(), 4, 40)?;
-        put(&mut tree, rt.alloc(), 1, 11)?;
-        assert!(rt; !tree.remove(&2)?);
-        assert_eq!(rt;
-            walk(&snapshot, rt.alloc())?.as_slice(),
-            [(1, 10), (2, 20), (3, 30)].as_slice()
-        );
-        assert_eq!(rt;
-            walk(&tree, rt.alloc())?.as_slice(),
-            [(1, 11), (3, 30), (4, 40)].as_slice()
-        );
-        assert_eq!(rt; tree.get(&4).copied(), Some(40));
-        assert_eq!(rt; tree.get(&2).copied(), None);
-        can_share_tree(&tree);
+        assert!(rt; tree.remove(&1)?);
+        assert!(rt; tree.is_empty());
+        assert!(rt; snapshot.get(&1).is_some());
         Ok(())
     }
 }

@@ -14,5 +14,5 @@ pub returns-clause-parts : goal.returns-clause-parts
 returns-clause-parts g c =
     let node = c.index-nodes-at.result in
     let rising = IsRising-at g.met.K.Ord.total (node_list g.C.Part.entries) _ _ _ c.place-at.ensures.within c.index-nodes-at.is c.requires.rising in
-    let fit = subst (IsFitNode g.C.Part.MOST g.C.Part.is_fit) (sym c.index-nodes-at.is) (c.requires.fits c.place-at.result node c.place-at.ensures.within) in
-    rw (c.deref-2.ensures.value, c.deref.ensures) (record { some = fit.0.0; fits = fit.1; rising = rising })
+    let fit = subst (IsFitNode g.C.Part.MOST g.C.Part.entries g.C.Part.is_fit) (sym c.index-nodes-at.is) (c.requires.fits c.place-at.result node c.place-at.ensures.within) in
+    rw (c.deref-2.ensures.value, c.deref.ensures) (record { some = fit.some; fits = fit.fits; rising = rising })
