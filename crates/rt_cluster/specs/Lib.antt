@@ -1,0 +1,6 @@
+pub mod Operations
+pub mod Shown
+pub mod Standing
+pub mod Laws
+pub mod Index
+pub mod Examples
