@@ -126,7 +126,8 @@ module _ {K V : Type 0} (cmp : K → K → Ordering) (least : K) (p : K → Bool
   none_in (e ∷ es) a = ap (λ b. cond b (e ∷ filter in_block es) (filter in_block es)) a.0 ∙ none_in es a.1
 
   -- behind the first that is not in it none is
-  pub block_ends : (e : K × V) (es : List (K × V)) → Ahead cmp least (e ∷ es) → p e.0 ≡ false → filter in_block (e ∷ es) ≡ []
+  pub block_ends : (e : K × V) (es : List (K × V)) → Ahead cmp least (e ∷ es) → p e.0 ≡ false
+      → filter in_block (e ∷ es) ≡ []
   block_ends e es a h =
       none_in (e ∷ es) (
         h,

@@ -66,7 +66,8 @@ more_bound : (b : Bool) (k number last : ℕ) → k ≤ last → k ≤ cond b (m
 more_bound true k number last h = omega arith
 more_bound false k number last h = h
 
-pub last_bound : (node : ℕ) (ms : List Mark) (m : Mark) → Among ms m → m.dot.node ≡ node → m.dot.number ≤ last_in node ms
+pub last_bound : (node : ℕ) (ms : List Mark) (m : Mark) → Among ms m → m.dot.node ≡ node
+    → m.dot.number ≤ last_in node ms
 last_bound node [] m h e = absurd h
 last_bound node (n ∷ ms) m (inl same) e =
     let here : (n.dot.node == node) ≡ true = eq-eqb n.dot.node node (ap (λ (x : Mark). x.dot.node) same ∙ e) in
@@ -89,11 +90,13 @@ module _ (node : ℕ) (topic key : List ℕ) (tree : Json) (known : List Operati
   -- no track of the node's has the next number
   pub not_yet : (m : Mark) → Among (marks_of known) m → m.dot ≡ dot_at node (last_number node known + 1) → ⊥
   not_yet m h e =
-      let bound : m.dot.number ≤ last_number node known = last_bound node (marks_of known) m h (ap (λ (d : Dot). d.node) e) in
+      let bound : m.dot.number ≤ last_number node known =
+      last_bound node (marks_of known) m h (ap (λ (d : Dot). d.node) e) in
       let number : m.dot.number ≡ last_number node known + 1 = ap (λ (d : Dot). d.number) e in
       omega arith
 
-  not_replaced_at : (b : Bool) → is_among (dots_where (is_own node topic key) known) (dot_at node (last_number node known + 1)) ≡ b
+  not_replaced_at : (b :
+      Bool) → is_among (dots_where (is_own node topic key) known) (dot_at node (last_number node known + 1)) ≡ b
       → b ≡ false
   not_replaced_at true h =
       let r = marked (dot_at node (last_number node known + 1)) (filter (is_own node topic key) (view known))
@@ -102,15 +105,18 @@ module _ (node : ℕ) (topic key : List ℕ) (tree : Json) (known : List Operati
       absurd (not_yet r.0 (of_view known r.0 f.0).0 (sym r.2))
   not_replaced_at false h = refl
 
-  not_replaced : is_among (dots_where (is_own node topic key) known ++ []) (dot_at node (last_number node known + 1)) ≡ false
+  not_replaced : is_among (dots_where (is_own node topic key) known ++ []) (dot_at node
+      (last_number node known + 1)) ≡ false
   not_replaced =
       ap (λ (ds : List Dot). is_among ds (dot_at node (last_number node known + 1)))
       (append-nil (dots_where (is_own node topic key) known))
-      ∙ not_replaced_at (is_among (dots_where (is_own node topic key) known) (dot_at node (last_number node known + 1))) refl
+      ∙ not_replaced_at (is_among (dots_where (is_own node topic key) known) (dot_at node
+      (last_number node known + 1))) refl
 
   view_is : view (tracked node topic key tree known ∷ [])
       ≡ mark_at (dot_at node (last_number node known + 1)) topic key tree ∷ []
-  view_is = ap (λ b. cond (not b) (mark_at (dot_at node (last_number node known + 1)) topic key tree ∷ []) []) not_replaced
+  view_is = ap (λ b. cond (not b) (mark_at (dot_at node
+      (last_number node known + 1)) topic key tree ∷ []) []) not_replaced
 
   pub track_said : (own : List Dot)
       → ((d : Dot) → is_among own d ≡ is_among (dots_where (is_own node topic key) known) d)
@@ -130,7 +136,8 @@ module _ (node : ℕ) (topic key : List ℕ) (tree : Json) (known : List Operati
 
   one_of : HasOneTrackADot known → (m n : Mark)
       → Among (mark_at (dot_at node (last_number node known + 1)) topic key tree ∷ marks_of known) m
-      → Among (mark_at (dot_at node (last_number node known + 1)) topic key tree ∷ marks_of known) n → m.dot ≡ n.dot → m ≡ n
+      → Among (mark_at (dot_at node (last_number node known + 1)) topic key tree ∷ marks_of known) n → m.dot ≡ n.dot
+      → m ≡ n
   one_of one m n (inl h) (inl k) e = sym h ∙ k
   one_of one m n (inl h) (inr k) e = absurd (not_yet n k (sym e ∙ ap (λ (x : Mark). x.dot) (sym h)))
   one_of one m n (inr h) (inl k) e = absurd (not_yet m h (e ∙ ap (λ (x : Mark). x.dot) (sym k)))
@@ -152,9 +159,12 @@ module _ (node : ℕ) (topic key : List ℕ) (tree : Json) (known : List Operati
 -- the dots of a node by the index are those of its marks
 
 module _ (node : ℕ) where
-  key_or : (d : Dot) (e : Dot × Place) (es : List (Dot × Place)) (b c : Bool) → (node == e.0.node) ≡ b → is_dot d e.0 ≡ c
-      → is_among (map (λ (f : Dot × Place). f.0) (filter (λ f. node == f.0.node) es)) d ≡ ((node == d.node) && is_among (keys_of es) d)
-      → is_among (map (λ (f : Dot × Place). f.0) (cond b (e ∷ filter (λ f. node == f.0.node) es) (filter (λ f. node == f.0.node) es))) d
+  key_or : (d : Dot) (e : Dot × Place) (es : List (Dot × Place)) (b c : Bool) → (node == e.0.node) ≡ b
+      → is_dot d e.0 ≡ c
+      → is_among (map (λ (f :
+      Dot × Place). f.0) (filter (λ f. node == f.0.node) es)) d ≡ ((node == d.node) && is_among (keys_of es) d)
+      → is_among (map (λ (f :
+      Dot × Place). f.0) (cond b (e ∷ filter (λ f. node == f.0.node) es) (filter (λ f. node == f.0.node) es))) d
       ≡ ((node == d.node) && (c || is_among (keys_of es) d))
   key_or d e es true true f g h =
       let own : (node == d.node) ≡ true = ap (λ (x : Dot). node == x.node) (same_dot d e.0 g) ∙ f in

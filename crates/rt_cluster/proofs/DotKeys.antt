@@ -10,7 +10,7 @@ use Rattle.rt_cluster.proofs.Indexed.{at_is_dot}
 use Rattle.rt_cluster.proofs.Taking.{dot_sym}
 
 module _ {V : Type 0} where
-  some_or : (b : Bool) (v : V) (o : Option V) → is_some (cond b (Some v) o) ≡ (b || is_some o)
+  pub some_or : (b : Bool) (v : V) (o : Option V) → is_some (cond b (Some v) o) ≡ (b || is_some o)
   some_or true v o = refl
   some_or false v o = refl
 
@@ -21,7 +21,8 @@ module _ {V : Type 0} where
       ∙ ap (λ b. b || is_some (value_at dot_cmp es d)) (at_is_dot d e.0)
       ∙ ap (λ b. is_dot d e.0 || b) (has_key es d)
 
-  pub key_added : (before after : List (Dot × V)) (d : Dot) (v : V) → Updates dot_cmp before after d (Some v) → (e : Dot)
+  pub key_added : (before after : List (Dot × V)) (d : Dot) (v : V) → Updates dot_cmp before after d (Some v)
+      → (e : Dot)
       → is_among (keys_of after) e ≡ (is_dot e d || is_among (keys_of before) e)
   key_added before after d v updates e =
       sym (has_key after e) ∙ ap is_some (updates e)

@@ -59,7 +59,8 @@ module _ (some others : List Operation) where
   pub marks_both : marks_of (some ++ others) ≡ marks_of some ++ marks_of others
   marks_both = flat_map-append marks_by some others
 
-  pub gone_both : (d : Dot) → is_among (gone_of (some ++ others)) d ≡ (is_among (gone_of some) d || is_among (gone_of others) d)
+  pub gone_both : (d : Dot) → is_among (gone_of (some ++ others)) d ≡ (is_among (gone_of some) d || is_among
+      (gone_of others) d)
   gone_both d = ap (λ ds. is_among ds d) (flat_map-append gone_by some others)
       ∙ any_append (is_dot d) (gone_of some) (gone_of others)
 

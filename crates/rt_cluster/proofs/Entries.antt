@@ -18,7 +18,8 @@ use Rattle.rt_cluster.specs.Index.{place_cmp, place_of, mark_of, tree_at, Holds}
 use Rattle.rt_cluster.specs.Shown.{mark_cmp}
 use Rattle.rt_cluster.proofs.Indexed.{place_total, place_exact}
 
-above : (e : Place × Json) (es : List (Place × Json)) → AllByRecursion (λ (p : Place). place_cmp e.0 p ≡ Less) (keys_of es)
+above : (e : Place × Json) (es : List (Place × Json)) → AllByRecursion (λ (p :
+    Place). place_cmp e.0 p ≡ Less) (keys_of es)
     → AllByRecursion (λ (m : Mark). mark_cmp (mark_of e) m ≡ Less) (map mark_of es)
 above e [] a = tt
 above e (f ∷ es) a = (a.0, above e es a.1)
@@ -32,7 +33,8 @@ module _ (es : List (Place × Json)) (rising : IsRising place_cmp es) where
   holds_there : (m : Mark) (e : Place × Json) → Among es e → mark_of e ≡ m → Holds es m
   holds_there m e h same =
       subst (λ (n : Mark). Holds es n) same
-      (lookup-from_Contains (eq_by_cmp_equiv place_total) e.0 e.1 es (IsDistinct-from_sorted place_cmp (keys_of es) rising)
+      (lookup-from_Contains (eq_by_cmp_equiv place_total) e.0 e.1 es (IsDistinct-from_sorted place_cmp
+      (keys_of es) rising)
       (to_contains es e h))
 
   pub holds_is : (m : Mark) → Contains (map mark_of es) m ↔ Holds es m

@@ -51,7 +51,7 @@ then_not_greater Less p f g h = absurd (cc)
 then_not_greater Equal p f g h = g h
 then_not_greater Greater p f g h = f refl
 
-none_below : (n : ℕ) → nat_cmp 0 n ≡ Greater → ⊥
+pub none_below : (n : ℕ) → nat_cmp 0 n ≡ Greater → ⊥
 none_below n h = low n (nat_cmp 0 n) h (ranked 0 n (nat_cmp 0 n) refl) where
   low : (m : ℕ) (r : Ordering) → r ≡ Greater → MatchOrdering r (0 < m) (0 ≡ m) (m < 0) → ⊥
   low m Less e h = cc
@@ -91,10 +91,12 @@ topic_is topic p =
     (λ h. (bytes_eq-Decides p.topic topic).1 (sym ((bytes_eq-Decides topic p.topic).0 h)))
     (λ h. (bytes_eq-Decides topic p.topic).1 (sym ((bytes_eq-Decides p.topic topic).0 h)))
 
-topic_least : (topic : List ℕ) (k : Place) → ordering_then (slice_cmp nat_cmp [] k.key) (dot_cmp (dot_at 0 0) k.dot) ≡ Greater → ⊥
+topic_least : (topic : List ℕ) (k :
+    Place) → ordering_then (slice_cmp nat_cmp [] k.key) (dot_cmp (dot_at 0 0) k.dot) ≡ Greater → ⊥
 topic_least topic k h =
     then_not_greater (slice_cmp nat_cmp [] k.key) (dot_cmp (dot_at 0 0) k.dot) (empty_first k.key)
-    (then_not_greater (nat_cmp 0 k.dot.node) (nat_cmp 0 k.dot.number) (none_below k.dot.node) (none_below k.dot.number)) h
+    (then_not_greater (nat_cmp 0 k.dot.node) (nat_cmp 0 k.dot.number) (none_below k.dot.node)
+    (none_below k.dot.number)) h
 
 pub topic_below : (topic : List ℕ) (p : Place) → place_cmp (least_on topic) p ≡ Greater → of_topic topic p ≡ false
 topic_below topic p h =
@@ -103,7 +105,8 @@ topic_below topic p h =
     (λ (x y : Place). ordering_then (slice_cmp nat_cmp x.key y.key) (dot_cmp x.dot y.dot))
     (on_total (λ (x : Place). x.topic) nat_list_cmp_total) (λ x y. refl) (least_on topic) (topic_least topic) p h
 
-pub topic_over : (topic : List ℕ) (p q : Place) → (place_cmp (least_on topic) p ≡ Greater → ⊥) → of_topic topic p ≡ false
+pub topic_over : (topic : List ℕ) (p q : Place) → (place_cmp (least_on topic) p ≡ Greater → ⊥)
+    → of_topic topic p ≡ false
     → place_cmp p q ≡ Less → of_topic topic q ≡ false
 topic_over topic p q above off less =
     sym (topic_is topic q)
@@ -122,7 +125,8 @@ key_front x y =
 key_total : IsTotalOrder key_front
 key_total =
     then_total (on_total (λ (p : Place). p.topic) nat_list_cmp_total)
-    (then_total (on_total (λ (p : Place). p.key) nat_list_cmp_total) (on_total (λ (p : Place). p.dot.node) nat_cmp_total))
+    (then_total (on_total (λ (p : Place). p.key) nat_list_cmp_total) (on_total (λ (p :
+    Place). p.dot.node) nat_cmp_total))
 
 key_is : (x y : Place) → place_cmp x y ≡ ordering_then (key_front x y) (nat_cmp x.dot.number y.dot.number)
 key_is x y =
@@ -160,7 +164,7 @@ module _ (least : Place) (low : least.dot.number ≡ 0) where
 
 -- from the first of all, all entries are walked
 
-le_of : (o : Ordering) → (o ≡ Greater → ⊥) → is_le o ≡ true
+pub le_of : (o : Ordering) → (o ≡ Greater → ⊥) → is_le o ≡ true
 le_of Less f = refl
 le_of Equal f = refl
 le_of Greater f = absurd (f refl)

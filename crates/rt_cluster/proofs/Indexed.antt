@@ -103,7 +103,8 @@ module _ (marks : List (Place × Json)) (places : List (Dot × Place)) (index : 
               ∙ ap (λ (q : Place). Some q) same
           | inr e ↦
               let stood : IsSome (tree_at marks p) =
-              ap is_some (sym (updates p ∙ other (is_at (place_cmp (place_of m)) p) (Some m.tree) (tree_at marks p) e)) ∙ some in
+              ap is_some (sym (updates p ∙ other (is_at (place_cmp (place_of m)) p) (Some m.tree)
+              (tree_at marks p) e)) ∙ some in
               let there = index.found p stood in
               elim (split (is_at (dot_cmp m.dot) p.dot)) [
                 | inl f ↦ absurd (not_both (placed_at places m.dot) p fresh
@@ -191,7 +192,8 @@ module _ (marks : List (Place × Json)) (places : List (Dot × Place)) (index : 
                 | inl f ↦
                     gone_at p (tree_at marks p) refl
                     (λ some.
-                    let same = some_one q p (sym at ∙ ap (placed_at places) (same_dot d p.dot f) ∙ index.found p some) in
+                    let same = some_one q p (sym at ∙ ap (placed_at places) (same_dot d p.dot f)
+                    ∙ index.found p some) in
                     let bad : true ≡ false = sym (ap (is_at (place_cmp q)) (sym same) ∙ place_at_itself q) ∙ e in cc)
                     ∙ sym (chosen (is_dot d p.dot) None (tree_at marks p) f)
                 | inr f ↦ sym (other (is_dot d p.dot) None (tree_at marks p) f)

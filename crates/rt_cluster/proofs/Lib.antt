@@ -11,3 +11,4 @@ pub mod Blocks
 pub mod DotKeys
 pub mod Fronts
 pub mod Doing
+pub mod RunLists

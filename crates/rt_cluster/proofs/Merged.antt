@@ -23,7 +23,8 @@ one_told told seen said known there one m n h k e =
       in_both : (x : Mark) → Contains told x → Contains (marks_of (said ++ known)) x
       in_both x i =
           to_contains _ _ (subst (λ (ms : List Mark). Among ms x) (sym (marks_both said known))
-          (among_left (marks_of said) (marks_of known) x (of_view said x (from_contains _ _ ((there.live_is_view x).0 i))).0))
+          (among_left (marks_of said) (marks_of known) x (of_view said x (from_contains _ _
+          ((there.live_is_view x).0 i))).0))
 
 told_seen_too : (told : List Mark) (seen : List Dot) (said : List Operation)
     → StandFor (Contains told) (is_among seen) said → (d : Dot) → is_told told d ≡ true → is_among seen d ≡ true
@@ -97,7 +98,8 @@ module _ (marks mid after : List (Place × Json)) (seen put_seen all_seen : List
       → StandFor (Contains told) (is_among told_seen) said → HasOneTrackADot (said ++ known)
       → StandFor (Holds after) (is_among all_seen) (said ++ known)
   merge_made known said here there one =
-      merged_for (Holds marks) (is_among seen) known here told told_seen said there one (Holds after) (is_among all_seen)
+      merged_for (Holds marks) (is_among seen) known here told told_seen said there one (Holds after)
+      (is_among all_seen)
       (λ m. (made m, kept_all (one_told told told_seen said known there one) m))
       (λ d. added d ∙ ap (λ b. is_among told_seen d || b) (dots d)
       ∙ no_more (is_among told_seen d) (is_told told d) (is_among seen d) (told_seen_too told told_seen said there d))
@@ -117,7 +119,8 @@ max_low a b h = omega arith
 
 last_or : (node : ℕ) (m : Mark) (rest last : ℕ) (b : Bool) → (m.dot.node == node) ≡ b → rest ≡ last
     → (m.dot.node ≡ node → m.dot.number ≤ last) → cond b (max m.dot.number rest) rest ≡ last
-last_or node m rest last true e h f = ap (max m.dot.number) h ∙ max_low m.dot.number last (f (eqb-true m.dot.node node e))
+last_or node m rest last true e h f = ap (max m.dot.number) h
+    ∙ max_low m.dot.number last (f (eqb-true m.dot.node node e))
 last_or node m rest last false e h f = h
 
 last_of : (node : ℕ) (ms others : List Mark)

@@ -61,7 +61,8 @@ heads_are m n ms ns r s (inr a) (inr b) =
     absurd (never n m (all_among (λ (x : Mark). mark_cmp n x ≡ Less) ns m s.0 a)
     (all_among (λ (x : Mark). mark_cmp m x ≡ Less) ms n r.0 b))
 
-behind_head : (m n : Mark) (ms : List Mark) → AllByRecursion (λ (x : Mark). mark_cmp m x ≡ Less) ms → Among ms n → m ≡ n → ⊥
+behind_head : (m n : Mark) (ms : List Mark) → AllByRecursion (λ (x : Mark). mark_cmp m x ≡ Less) ms → Among ms n
+    → m ≡ n → ⊥
 behind_head m n ms a at e =
     let less : mark_cmp m n ≡ Less = all_among (λ (x : Mark). mark_cmp m x ≡ Less) ms n a at in
     let z : Less ≡ Equal = sym (subst (λ (x : Mark). mark_cmp m x ≡ Less) (sym e) less) ∙ tied_itself mark_total m in cc
@@ -95,11 +96,13 @@ ties_with m [] h = absurd (cc)
 ties_with m (n ∷ ns) h = tie_of m n ns (eq_by_cmp mark_cmp m n) refl (ties_with m ns) h
 
 -- where no two different marks have one dot, all stand in order
-ordered_has : (ms : List Mark) → ((m n : Mark) → Among ms m → Among ms n → m.dot ≡ n.dot → m ≡ n) → (m : Mark) → Among ms m
+ordered_has : (ms : List Mark) → ((m n : Mark) → Among ms m → Among ms n → m.dot ≡ n.dot → m ≡ n) → (m : Mark)
+    → Among ms m
     → Among (in_order mark_cmp ms) m
 ordered_has ms one m h =
     let r = ties_with m (in_order mark_cmp ms)
-    (all_among (order.Ties mark_cmp mark_total (in_order mark_cmp ms)) ms m (order.in_order_ties mark_cmp mark_total ms) h) in
+    (all_among (order.Ties mark_cmp mark_total (in_order mark_cmp ms)) ms m
+    (order.in_order_ties mark_cmp mark_total ms) h) in
     let same : m ≡ r.0 = one m r.0 h (order.in_order_among mark_cmp mark_total ms r.0 r.1) (tied_dots m r.0 r.2) in
     subst (λ (x : Mark). Among (in_order mark_cmp ms) x) (sym same) r.1
 
@@ -109,11 +112,13 @@ view_one : (ops : List Operation) → HasOneTrackADot ops → (m n : Mark) → A
 view_one ops one m n h k e =
     one m n (to_contains _ _ (of_view ops m h).0) (to_contains _ _ (of_view ops n k).0) e
 
-flat_sub : {A : Type 0} (f : Operation → List A) (some others : List Operation) → ((o : Operation) → Among some o → Among others o)
+flat_sub : {A : Type 0} (f : Operation → List A) (some others : List Operation) → ((o : Operation) → Among some o
+    → Among others o)
     → (x : A) → Among (flat_map f some) x → Among (flat_map f others) x
 flat_sub f some others sub x h =
     let r = among_flat f some x h in flat_has f others r.0 x (sub r.0 r.1) r.2 where
-      flat_has : {A : Type 0} (f : Operation → List A) (os : List Operation) (o : Operation) (x : A) → Among os o → Among (f o) x
+      flat_has : {A : Type 0} (f : Operation → List A) (os : List Operation) (o : Operation) (x : A) → Among os o
+          → Among (f o) x
           → Among (flat_map f os) x
       flat_has f [] o x h k = absurd h
       flat_has {A} f (p ∷ os) o x (inl e) k =

@@ -18,13 +18,15 @@ pub same_mark : (m n : Mark) → place_of m ≡ place_of n → m.tree ≡ n.tree
 same_mark m n e f = ap (λ (p : Place). mark_of (p, m.tree)) e ∙ ap (λ (t : Json). mark_of (place_of n, t)) f
 
 pub told_more : (ms : List Mark) (m : Mark) (d : Dot) → is_told (ms ++ m ∷ []) d ≡ (is_told ms d || is_dot d m.dot)
-told_more ms m d = any_append (λ (x : Mark). is_dot d x.dot) ms (m ∷ []) ∙ ap (λ b. is_told ms d || b) (or_no (is_dot d m.dot)) where
-  or_no : (b : Bool) → (b || false) ≡ b
-  or_no true = refl
-  or_no false = refl
+told_more ms m d = any_append (λ (x : Mark). is_dot d x.dot) ms (m ∷ [])
+    ∙ ap (λ b. is_told ms d || b) (or_no (is_dot d m.dot)) where
+      or_no : (b : Bool) → (b || false) ≡ b
+      or_no true = refl
+      or_no false = refl
 
 -- where all that have a place were seen, a dot that wasn't has none
-pub no_place : (places : List (Dot × Place)) (seen : List Dot) → IsAllSeen places seen → (d : Dot) → is_among seen d ≡ false
+pub no_place : (places : List (Dot × Place)) (seen : List Dot) → IsAllSeen places seen → (d : Dot)
+    → is_among seen d ≡ false
     → placed_at places d ≡ None
 no_place places seen all d un = none (placed_at places d) refl where
   none : (o : Option Place) → placed_at places d ≡ o → o ≡ None
@@ -108,7 +110,8 @@ module _ (before : List (Place × Json)) (was : List Dot) (told done : List Mark
       (added : (d : Dot) → is_among dots d ≡ (is_dot d n.dot || is_among seen d)) where
     there : Holds after n
     there = updates (place_of n)
-        ∙ chosen (is_at (place_cmp (place_of n)) (place_of n)) (Some n.tree) (tree_at marks (place_of n)) (place_at_itself (place_of n))
+        ∙ chosen (is_at (place_cmp (place_of n)) (place_of n)) (Some n.tree) (tree_at marks (place_of n))
+        (place_at_itself (place_of n))
 
     still : (m : Mark) → Holds marks m → Holds after m
     still m h =
@@ -128,7 +131,8 @@ module _ (before : List (Place × Json)) (was : List Dot) (told done : List Mark
           | inl e ↦
               let tree : n.tree ≡ m.tree = some_one n.tree m.tree
               (sym (updates (place_of m)
-              ∙ chosen (is_at (place_cmp (place_of n)) (place_of m)) (Some n.tree) (tree_at marks (place_of m)) e) ∙ h) in
+              ∙ chosen (is_at (place_cmp (place_of n)) (place_of m)) (Some n.tree) (tree_at marks (place_of m)) e)
+              ∙ h) in
               let same : n ≡ m = same_mark n m (at_place (place_of n) (place_of m) e) tree in
               let fresh : is_among was n.dot ≡ false =
               (or_parts (is_told done n.dot) (is_among was n.dot) (sym (so_far.dots n.dot) ∙ unseen)).1 in
@@ -170,8 +174,10 @@ module _ (before : List (Place × Json)) (was : List Dot) (told done : List Mark
     }
 
 -- at equal maps
-pub put_same : (before : List (Place × Json)) (was : List Dot) (told done : List Mark) (marks other_marks : List (Place × Json))
-    (places other_places : List (Dot × Place)) (seen other_seen : List Dot) → other_marks ≡ marks → other_places ≡ places
+pub put_same : (before : List (Place × Json)) (was : List Dot) (told done : List Mark) (marks other_marks :
+    List (Place × Json))
+    (places other_places : List (Dot × Place)) (seen other_seen : List Dot) → other_marks ≡ marks
+    → other_places ≡ places
     → other_seen ≡ seen → HasPut before was told done marks places seen
     → HasPut before was told done other_marks other_places other_seen
 put_same before was told done marks other_marks places other_places seen other_seen e f g h =

@@ -41,7 +41,8 @@ module _ (live : Mark → Type 0) (seen : Dot → Bool) (known : List Operation)
   stands : (m : Mark) → Among (marks_of said ++ marks_of known) m → is_among (gone_of said) m.dot ≡ false
       → is_among (gone_of known) m.dot ≡ false → Contains (view (said ++ known)) m
   stands m h e f =
-      to_contains _ _ (in_view (said ++ known) m (subst (λ (ms : List Mark). Among ms m) (sym (marks_both said known)) h)
+      to_contains _ _ (in_view (said ++ known) m (subst (λ (ms :
+      List Mark). Among ms m) (sym (marks_both said known)) h)
       (gone_in_both m.dot e f))
 
   -- a dot of a mark that is told is not gone there
@@ -85,7 +86,8 @@ module _ (live : Mark → Type 0) (seen : Dot → Bool) (known : List Operation)
       elim (true_or_false (seen m.dot)) [
         | inl t ↦
             let r = tracked_there known m.dot (sym (here.seen_are_dots m.dot) ∙ t) f in
-            let there_is : (x : Mark) → Among (marks_of said ++ marks_of known) x → Contains (marks_of (said ++ known)) x =
+            let there_is : (x : Mark) → Among (marks_of said ++ marks_of known) x
+            → Contains (marks_of (said ++ known)) x =
             λ x i. to_contains _ _ (subst (λ (ms : List Mark). Among ms x) (sym (marks_both said known)) i) in
             let same : m ≡ r.0 = one m r.0 (there_is m (among_left (marks_of said) (marks_of known) m h))
             (there_is r.0 (among_right (marks_of said) (marks_of known) r.0 r.1)) r.2 in
@@ -104,7 +106,8 @@ module _ (live : Mark → Type 0) (seen : Dot → Bool) (known : List Operation)
         | inr b ↦ kept m b gone.0 gone.1
       ]
 
-  marks_dots : (d : Dot) → is_told (marks_of (said ++ known)) d ≡ (is_told (marks_of said) d || is_told (marks_of known) d)
+  marks_dots : (d : Dot) → is_told (marks_of (said ++ known)) d ≡ (is_told (marks_of said) d || is_told
+      (marks_of known) d)
   marks_dots d =
       ap (λ (ms : List Mark). is_told ms d) (marks_both said known)
       ∙ any_append (λ (m : Mark). is_dot d m.dot) (marks_of said) (marks_of known)

@@ -73,7 +73,8 @@ module _ (before : List (Place × Json)) (found : List (Dot × Place)) (told don
     (d : Dot) (all : (e : Dot) → is_among more e ≡ (is_among done e || is_dot e d)) where
   pub passed_next : is_among told d ≡ true → HasTaken before found told more marks places
   passed_next has = record {
-    taken = λ p. passed_one told done more d p.dot (all p.dot) has (tree_at before p) (tree_at marks p) (so_far.taken p);
+    taken = λ p. passed_one told done more d p.dot (all p.dot) has (tree_at before p) (tree_at marks p)
+        (so_far.taken p);
     fewer = so_far.fewer;
     index = so_far.index;
   }
@@ -95,7 +96,8 @@ module _ (before : List (Place × Json)) (found : List (Dot × Place)) (told don
 
 -- the first elements of a list, and one more
 
-pub take_next : {A : Type 0} (xs : List A) (i : ℕ) (x : A) → i < length xs → take (i + 1) xs ≡ take i xs ++ get_or xs i x ∷ []
+pub take_next : {A : Type 0} (xs : List A) (i : ℕ) (x : A) → i < length xs
+    → take (i + 1) xs ≡ take i xs ++ get_or xs i x ∷ []
 take_next xs i x lt = ap (λ n. take n xs) (add-one i) ∙ take-suc xs i x lt
 
 pub take_among : {A : Type 0} (xs : List A) (n : ℕ) (x : A) → Among (take n xs) x → Among xs x

@@ -16,7 +16,8 @@ dot_cmp d e = ordering_then (nat_cmp d.node e.node) (nat_cmp d.number e.number)
 
 abbrev pub place_cmp : Place → Place → Ordering
 place_cmp p q =
-    ordering_then (slice_cmp nat_cmp p.topic q.topic) (ordering_then (slice_cmp nat_cmp p.key q.key) (dot_cmp p.dot q.dot))
+    ordering_then (slice_cmp nat_cmp p.topic q.topic) (ordering_then (slice_cmp nat_cmp p.key q.key)
+    (dot_cmp p.dot q.dot))
 
 abbrev pub place_at : List ℕ → List ℕ → Dot → Place
 place_at topic key dot = record { topic = topic; key = key; dot = dot }

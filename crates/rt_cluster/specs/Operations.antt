@@ -69,7 +69,8 @@ mark_at dot topic key tree = record { dot = dot; topic = topic; key = key; tree 
 -- that, or removes all that another node shows
 abbrev pub tracked : ℕ → List ℕ → List ℕ → Json → List Operation → Operation
 tracked node topic key tree known =
-    tracks (mark_at (dot_at node (last_number node known + 1)) topic key tree) (dots_where (is_own node topic key) known)
+    tracks (mark_at (dot_at node (last_number node known + 1)) topic key tree) (dots_where
+    (is_own node topic key) known)
 
 abbrev pub untracked : ℕ → List ℕ → List ℕ → List Operation → Operation
 untracked node topic key known = removes (dots_where (is_own node topic key) known)

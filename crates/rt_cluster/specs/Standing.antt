@@ -8,7 +8,8 @@ use Rattle.rt_cluster.specs.declared.dots.Delta.{Delta}
 use Rattle.rt_cluster.specs.Operations.{Operation, marks_of, dots_of, view, is_among, is_told, last_number}
 use Rattle.rt_cluster.specs.Shown.{mark_cmp}
 
--- marks and seen dots stand for operations: the marks are the view, the dots those that operations make, replace or remove
+-- marks and seen dots stand for operations: the marks are the view, the dots those that operations make, replace or
+-- remove
 pub record StandFor (live : Mark → Type 0) (seen : Dot → Bool) (operations : List Operation) : Type 0 where
   pub live_is_view : (m : Mark) → live m ↔ Contains (view operations) m
   pub seen_are_dots : (d : Dot) → seen d ≡ is_among (dots_of operations) d
@@ -44,4 +45,5 @@ IsMerged live seen told told_seen m =
 
 -- what is said has no track of the node's own behind its last one
 abbrev pub IsBehind : ℕ → List Operation → List Operation → Type 0
-IsBehind node said known = (m : Mark) → Contains (marks_of said) m → m.dot.node ≡ node → m.dot.number ≤ last_number node known
+IsBehind node said known = (m : Mark) → Contains (marks_of said) m → m.dot.node ≡ node
+    → m.dot.number ≤ last_number node known

@@ -8,6 +8,7 @@ pub mod laws;
 mod merging;
 mod places;
 mod replica;
+mod runs;
 mod seen;
 mod walks;
 

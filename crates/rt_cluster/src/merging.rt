@@ -42,8 +42,8 @@ pub fn take_gone(
     gone: &[Dot],
 ) -> Result<(), AllocError>
     requires { IsIndexed marks.old places.old }
-    ensures marks { OnOk result ((p : PlaceData) → tree_at marks.new p
-        ≡ cond (is_among gone.now p.dot && not (is_among told.now p.dot)) None (tree_at marks.old p)) }
+    ensures marks { OnOk result ((p : PlaceData) → tree_at marks.new p ≡
+        cond (is_among gone.now p.dot && not (is_among told.now p.dot)) None (tree_at marks.old p)) }
     ensures places { OnOk result ((d : DotData) →
         IsSome (placed_at places.new d) → IsSome (placed_at places.old d)) }
     ensures index { OnOk result (IsIndexed marks.new places.new) }

@@ -59,8 +59,10 @@ pub fn put(
 ) -> Result<(), AllocError>
     requires index { IsIndexed marks.old places.old }
     requires fresh { placed_at places.old mark.now.dot ≡ None }
-    ensures marks { OnOk result (Updates place_cmp marks.old marks.new (place_of mark.now) (Some mark.now.tree)) }
-    ensures places { OnOk result (Updates dot_cmp places.old places.new mark.now.dot (Some (place_of mark.now))) }
+    ensures marks { OnOk result
+        (Updates place_cmp marks.old marks.new (place_of mark.now) (Some mark.now.tree)) }
+    ensures places { OnOk result
+        (Updates dot_cmp places.old places.new mark.now.dot (Some (place_of mark.now))) }
     ensures index { OnOk result (IsIndexed marks.new places.new) }
 {
     let place = Arc::new(alloc, place_of(alloc, mark)?)?;

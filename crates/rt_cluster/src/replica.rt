@@ -43,7 +43,12 @@ impl Model for Replica {
 
     ghost coded = { known_code mark.the_row.coded dot.the_row.coded };
 
-    ghost view = { λ r. record { node = r.node; made = r.made; live = map mark_of r.marks; seen = r.seen } };
+    ghost view = { λ r. record {
+      node = r.node;
+      made = r.made;
+      live = map mark_of r.marks;
+      seen = r.seen;
+    } };
 
     ghost invariant = { λ r. IsKept r.marks r.places r.seen };
 }
@@ -66,8 +71,8 @@ impl Replica {
     // Takes the delta in. The node made so many tracks then.
     fn take_in(&mut self, alloc: Global, delta: &Delta, made: u32) -> Result<(), AllocError>
         ensures sets { OnOk result ((known said : List Operation) →
-            StandFor (Contains self.old.live) (is_among self.old.seen) known → StandsFor delta.now said →
-            HasOneTrackADot (said ++ known) →
+            StandFor (Contains self.old.live) (is_among self.old.seen) known →
+            StandsFor delta.now said → HasOneTrackADot (said ++ known) →
             StandFor (Contains self.new.live) (is_among self.new.seen) (said ++ known)) }
         ensures rising { OnOk result (IsStrictlySortedBy mark_cmp self.new.live) }
         ensures node { OnOk result (self.new.node ≡ self.old.node) }
@@ -85,8 +90,8 @@ impl Replica {
         Ok(())
     }
 
-    /// Takes in what another node tells, once or again, early or late: a mark stays, or comes, where
-    /// both know it live, or where one does and the other hasn't seen its dot. The replica then
+    /// Takes in what another node tells, once or again, early or late: a mark stays, or comes,
+    /// where both know it live, or where one does and the other hasn't seen its dot. It then
     /// stands for the operations that it stood for and those that the delta stands for, where no
     /// two different tracks among them have one dot, and the delta has no track of this node's own
     /// behind its last one.

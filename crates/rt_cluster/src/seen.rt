@@ -4,26 +4,27 @@ ghost use Rattle.rt_cluster.specs.Operations.{is_dot, is_among};
 ghost use Rattle.rt_cluster.specs.declared.dots.Dot.{Dot as DotData};
 
 use crate::dots::Dot;
-use crate::places::insert;
+use crate::runs::{Others, Runs, add_in, dots_in, has_in};
 use rt_ptree::Tree;
 use std::alloc::{AllocError, Global};
 use std::marker::Model;
-use std::sync::Arc;
 
-/// A set of dots. Contracts see a list of them.
+/// A set of dots: of each node those from 1 on up to a last one, and single dots beyond. Contracts
+/// see a list of them.
 #[derive(Drop)]
 pub struct Seen {
-    dots: Tree<Dot, bool>,
+    runs: Runs,
+    others: Others,
 }
 
 impl Model for Seen {
     ghost use Rattle.std.specs.Prelude.{List};
-    ghost use Rattle.std.specs.Map.{keys_of};
+    ghost use Rattle.rt_cluster.specs.Runs.{dots_in};
     ghost use Rattle.rt_cluster.specs.declared.dots.Dot.{Dot};
 
     ghost Value = { List Dot };
 
-    ghost view = { λ s. keys_of s.dots };
+    ghost view = { λ s. dots_in s.runs s.others };
 }
 
 impl Seen {
@@ -32,7 +33,8 @@ impl Seen {
         ensures { result ≡ [] }
     {
         Seen {
-            dots: Tree::new(alloc),
+            runs: Tree::new(alloc),
+            others: Tree::new(alloc),
         }
     }
 
@@ -40,37 +42,37 @@ impl Seen {
     pub fn snapshot(&self) -> Result<Self, AllocError>
         ensures { IfOk result (λ s. s ≡ self.now) }
     {
-        Ok(Seen {
-            dots: self.dots.snapshot()?,
-        })
+        let runs = self.runs.snapshot()?;
+        let others = self.others.snapshot()?;
+        Ok(Seen { runs, others })
     }
 
     /// Whether the dot is in the set.
     pub fn has(&self, dot: &Dot) -> bool
         ensures { result ≡ is_among self.now dot.now }
     {
-        self.dots.get(dot).is_some()
+        // A map's length tells a proof that its keys rise.
+        let _len = self.runs.len();
+        has_in(&self.runs, &self.others, dot)
     }
 
     /// Puts the dot in.
     pub fn add(&mut self, alloc: Global, dot: &Dot) -> Result<(), AllocError>
-        ensures { OnOk result ((d : DotData) → is_among self.new d ≡ (is_dot d dot.now || is_among self.old d)) }
+        ensures { OnOk result ((d : DotData) →
+            is_among self.new d ≡ (is_dot d dot.now || is_among self.old d)) }
     {
-        let key = Arc::new(alloc, *dot)?;
-        let value = Arc::new(alloc, true)?;
-        insert(&mut self.dots, key, value)?;
+        let _before = self.runs.len();
+        add_in(alloc, &mut self.runs, &mut self.others, dot)?;
+        let _after = self.runs.len();
         Ok(())
     }
 
     /// The dots of the set.
     pub fn dots(&self, alloc: Global) -> Result<Vec<Dot>, AllocError>
-        ensures { IfOk result (λ dots. (d : DotData) → is_among dots.items d ≡ is_among self.now d) }
+        ensures { IfOk result (λ dots. (d : DotData) →
+            is_among dots.items d ≡ is_among self.now d) }
     {
-        let mut dots = Vec::new(alloc);
-        let least = Dot { node: 0, number: 0 };
-        for (dot, _value) in self.dots.entries_from(&least) {
-            dots.push(*dot)?;
-        }
+        let dots = dots_in(alloc, &self.runs, &self.others)?;
         Ok(dots)
     }
 }

@@ -14,7 +14,8 @@ use std::alloc::{AllocError, Global};
 /// The dots of the marks of the place's node under its topic and key. The place has the number 0.
 pub fn dots_beside(alloc: Global, marks: &Marks, least: &Place) -> Result<Vec<Dot>, AllocError>
     requires { least.now.dot.number ≡ 0 }
-    ensures { IfOk result (λ dots. dots.items ≡ map (λ e. e.0.dot) (filter (λ e. is_beside least.now e.0) marks.now)) }
+    ensures { IfOk result (λ dots. dots.items
+        ≡ map (λ e. e.0.dot) (filter (λ e. is_beside least.now e.0) marks.now)) }
 {
     // A map's length tells a proof that its keys rise.
     let _len = marks.len();
@@ -49,7 +50,8 @@ fn is_on(topic: &Text, place: &Place) -> bool
 
 /// The dots of a node's marks.
 pub fn dots_of_node(alloc: Global, places: &Places, node: u32) -> Result<Vec<Dot>, AllocError>
-    ensures { IfOk result (λ dots. dots.items ≡ map (λ e. e.0) (filter (λ e. node == e.0.node) places.now)) }
+    ensures { IfOk result (λ dots. dots.items
+        ≡ map (λ e. e.0) (filter (λ e. node == e.0.node) places.now)) }
 {
     let _len = places.len();
     let mut dots = Vec::new(alloc);

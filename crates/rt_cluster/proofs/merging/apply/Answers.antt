@@ -30,11 +30,13 @@ returns c =
     let gone : (p : Place) → tree_at mid p
     ≡ cond (is_among told_seen p.dot && not (is_told live p.dot)) None (tree_at marks p) =
     λ p. c.in_ok-take_gone.ensures.marks p
-    ∙ ap (λ (ds : List Dot). cond (is_among ds p.dot && not (is_among told p.dot)) None (tree_at marks p)) c.get-2.ensures
+    ∙ ap (λ (ds : List Dot). cond (is_among ds p.dot && not (is_among told p.dot)) None
+    (tree_at marks p)) c.get-2.ensures
     ∙ ap (λ b. cond (is_among told_seen p.dot && not b) None (tree_at marks p))
     (c.in_ok-told.ensures p.dot ∙ ap (λ (ms : List Mark). is_told ms p.dot) c.get.ensures) in
     let came : (m : Mark) → Holds after m → Holds mid m ⊎ (Contains live m × (is_among seen m.dot ≡ false)) =
-    subst (λ (ms : List Mark). (m : Mark) → Holds after m → Holds mid m ⊎ (Contains ms m × (is_among seen m.dot ≡ false)))
+    subst (λ (ms : List Mark). (m : Mark) → Holds after m → Holds mid m ⊎ (Contains ms m
+    × (is_among seen m.dot ≡ false)))
     c.get-3.ensures c.in_ok-put_new.ensures.came in
     let taken : HasOneADot live → (m : Mark) → Contains live m → is_among seen m.dot ≡ false → Holds after m =
     subst (λ (ms : List Mark). HasOneADot ms → (m : Mark) → Contains ms m → is_among seen m.dot ≡ false → Holds after m)

@@ -29,7 +29,8 @@ loop-mark-preserved c =
     take_next told i n c.loop-mark-test.true ∙ ap (λ (m : Mark). take i told ++ m ∷ []) (sym c.mark-item.is) in
     let inside : (m : Mark) → Among (take i told ++ n ∷ []) m → Among told m =
     λ m h. take_among told (i + 1) m (subst (λ (ms : List Mark). Among ms m) (sym next) h) in
-    subst (λ (ms : List Mark). HasPut before was told ms c.if-not-has.marks c.if-not-has.places c.if-not-has.seen) (sym next)
+    subst (λ (ms : List Mark). HasPut before was told ms c.if-not-has.marks c.if-not-has.places c.if-not-has.seen)
+    (sym next)
     (elim c.if-not-has.branch [
       | then-not-has+in_ok-put+in_ok-add w ↦
           put_same _ _ _ _ _ _ _ _ _ _ w.marks-is w.places-is w.seen-is
@@ -44,7 +45,8 @@ loop-mark-preserved c =
 
 pub returns : goal.returns
 returns c =
-    let so : HasPut c.args.marks.now c.args.seen.now c.args.told.now c.args.told.now c.loop-mark.marks c.loop-mark.places
+    let so : HasPut c.args.marks.now c.args.seen.now c.args.told.now c.args.told.now c.loop-mark.marks
+    c.loop-mark.places
     c.loop-mark.seen =
     subst (λ (ms : List Mark). HasPut c.args.marks.now c.args.seen.now c.args.told.now ms c.loop-mark.marks
     c.loop-mark.places c.loop-mark.seen) (take_all c.loop-mark.mark-index c.args.told.now c.loop-mark-test.false)

@@ -21,18 +21,22 @@ loop-dot-preserved c =
     elim c.if-not-has.branch [
       | then-not-has+in_ok-take w ↦
           taken_same _ _ _ _ _ _ _ _ w.marks-is w.places-is
-          (taken_next c.args.marks.now c.args.places.now c.args.told.now (take i gone) (take (i + 1) gone) c.loop-dot.marks
+          (taken_next c.args.marks.now c.args.places.now c.args.told.now (take i gone) (take
+          (i + 1) gone) c.loop-dot.marks
           c.loop-dot.places c.loop-dot.invariant d all (sym c.has.ensures ∙ w.if-not-has.true) _ _
           w.in_ok-take.ensures.marks w.in_ok-take.ensures.places w.in_ok-take.ensures.index)
       | else-not-has w ↦
           taken_same _ _ _ _ _ _ _ _ w.marks-is w.places-is
-          (passed_next c.args.marks.now c.args.places.now c.args.told.now (take i gone) (take (i + 1) gone) c.loop-dot.marks
+          (passed_next c.args.marks.now c.args.places.now c.args.told.now (take i gone) (take
+          (i + 1) gone) c.loop-dot.marks
           c.loop-dot.places c.loop-dot.invariant d all (sym c.has.ensures ∙ w.if-not-has.false))
     ]
 
 pub returns : goal.returns
 returns c =
-    let so : HasTaken c.args.marks.now c.args.places.now c.args.told.now c.args.gone.now c.loop-dot.marks c.loop-dot.places =
-    subst (λ (ds : List Dot). HasTaken c.args.marks.now c.args.places.now c.args.told.now ds c.loop-dot.marks c.loop-dot.places)
+    let so : HasTaken c.args.marks.now c.args.places.now c.args.told.now c.args.gone.now c.loop-dot.marks
+    c.loop-dot.places =
+    subst (λ (ds : List Dot). HasTaken c.args.marks.now c.args.places.now c.args.told.now ds c.loop-dot.marks
+    c.loop-dot.places)
     (take_all c.loop-dot.dot-index c.args.gone.now c.loop-dot-test.false) c.loop-dot.invariant in
     record { marks = so.taken; places = so.fewer; index = so.index }

@@ -6,9 +6,11 @@ use Rattle.rt_cluster.proofs.places.put.Goals as goal
 
 pub returns-clause-index : goal.returns-clause-index
 returns-clause-index c =
-    let marks : Updates place_cmp c.args.marks.now c.insert.new.map (place_of c.args.mark.now) (Some c.args.mark.now.tree) =
+    let marks : Updates place_cmp c.args.marks.now c.insert.new.map (place_of c.args.mark.now)
+    (Some c.args.mark.now.tree) =
     search rules in
-    let places : Updates dot_cmp c.args.places.now c.insert-2.new.map c.args.mark.now.dot (Some (place_of c.args.mark.now)) =
+    let places : Updates dot_cmp c.args.places.now c.insert-2.new.map c.args.mark.now.dot (Some
+    (place_of c.args.mark.now)) =
     search rules in
     put_indexed c.args.marks.now c.args.places.now c.requires.index c.args.mark.now c.requires.fresh c.insert.new.map
     c.insert-2.new.map marks places

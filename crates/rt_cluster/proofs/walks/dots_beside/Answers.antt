@@ -16,7 +16,9 @@ loop-place-init c =
     record {
       ahead = subst (λ (es : List (Place × Json)). Ahead place_cmp c.args.least.now es) (sym walk)
           (ahead_from place_cmp c.args.least.now c.args.marks.now c.len-len.ensures.rising);
-      all = walk_starts place_cmp c.args.least.now (is_beside c.args.least.now) (key_below c.args.least.now c.requires) (key_over c.args.least.now c.requires) (λ (e : Place × Json). e.0.dot) c.new-dots.result.items c.new-dots.ensures.items
+      all = walk_starts place_cmp c.args.least.now (is_beside c.args.least.now)
+          (key_below c.args.least.now c.requires) (key_over c.args.least.now c.requires) (λ (e : Place
+          × Json). e.0.dot) c.new-dots.result.items c.new-dots.ensures.items
           c.args.marks.now c.into_iter-place-iterator.result walk;
     }
 
@@ -27,7 +29,9 @@ loop-place-preserved c =
       ahead = ahead_rest place_cmp c.args.least.now here c.next.new.self
           (subst (λ (es : List (Place × Json)). Ahead place_cmp c.args.least.now es) c.in-Some.ensures.steps
           c.loop-place.invariant.ahead);
-      all = walk_goes place_cmp c.args.least.now (is_beside c.args.least.now) (key_below c.args.least.now c.requires) (key_over c.args.least.now c.requires) (λ (e : Place × Json). e.0.dot) c.loop-place.dots.items c.push.new.self.items here
+      all = walk_goes place_cmp c.args.least.now (is_beside c.args.least.now) (key_below c.args.least.now c.requires)
+          (key_over c.args.least.now c.requires) (λ (e : Place
+          × Json). e.0.dot) c.loop-place.dots.items c.push.new.self.items here
           c.next.new.self c.loop-place.place-iterator _ c.in-Some.ensures.steps
           (sym c.is_beside.ensures ∙ c.if-not-is_beside.false) c.in_ok-push.ensures.items c.loop-place.invariant.all;
     }
@@ -38,9 +42,12 @@ returns c =
     elim c.match-next.branch [
       | in-None w ↦ ap (filter (λ (e : Place × Json). (is_beside c.args.least.now) e.0)) w.in-None.ensures.steps.0
       | in-Some+then-not-is_beside w ↦
-          walk_breaks place_cmp c.args.least.now (is_beside c.args.least.now) (key_below c.args.least.now c.requires) (key_over c.args.least.now c.requires) (w.in-Some.place.now, w.in-Some._tree.now) c.next.new.self
+          walk_breaks place_cmp c.args.least.now (is_beside c.args.least.now) (key_below c.args.least.now c.requires)
+          (key_over c.args.least.now c.requires) (w.in-Some.place.now, w.in-Some._tree.now) c.next.new.self
           c.loop-place.place-iterator w.in-Some.ensures.steps c.loop-place.invariant.ahead
           (sym w.is_beside.ensures ∙ w.if-not-is_beside.true)
     ] in
-    walk_done place_cmp c.args.least.now (is_beside c.args.least.now) (key_below c.args.least.now c.requires) (key_over c.args.least.now c.requires) (λ (e : Place × Json). e.0.dot) c.loop-place.dots.items c.loop-place.place-iterator _ none
+    walk_done place_cmp c.args.least.now (is_beside c.args.least.now) (key_below c.args.least.now c.requires)
+    (key_over c.args.least.now c.requires) (λ (e : Place
+    × Json). e.0.dot) c.loop-place.dots.items c.loop-place.place-iterator _ none
     c.loop-place.invariant.all

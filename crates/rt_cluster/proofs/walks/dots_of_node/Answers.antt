@@ -17,7 +17,8 @@ loop-dot-init c =
     record {
       ahead = subst (λ (es : List (Dot × Place)). Ahead dot_cmp (dot_at c.args.node 0) es) (sym walk)
           (ahead_from dot_cmp (dot_at c.args.node 0) c.args.places.now c.len-len.ensures.rising);
-      all = walk_starts dot_cmp (dot_at c.args.node 0) (of_node c.args.node) (node_below c.args.node) (node_over c.args.node) (λ (e : Dot × Place). e.0) c.new-dots.result.items c.new-dots.ensures.items
+      all = walk_starts dot_cmp (dot_at c.args.node 0) (of_node c.args.node) (node_below c.args.node)
+          (node_over c.args.node) (λ (e : Dot × Place). e.0) c.new-dots.result.items c.new-dots.ensures.items
           c.args.places.now c.into_iter-dot-iterator.result walk;
     }
 
@@ -28,7 +29,8 @@ loop-dot-preserved c =
       ahead = ahead_rest dot_cmp (dot_at c.args.node 0) here c.next.new.self
           (subst (λ (es : List (Dot × Place)). Ahead dot_cmp (dot_at c.args.node 0) es) c.in-Some.ensures.steps
           c.loop-dot.invariant.ahead);
-      all = walk_goes dot_cmp (dot_at c.args.node 0) (of_node c.args.node) (node_below c.args.node) (node_over c.args.node) (λ (e : Dot × Place). e.0) c.loop-dot.dots.items c.push.new.self.items here
+      all = walk_goes dot_cmp (dot_at c.args.node 0) (of_node c.args.node) (node_below c.args.node)
+          (node_over c.args.node) (λ (e : Dot × Place). e.0) c.loop-dot.dots.items c.push.new.self.items here
           c.next.new.self c.loop-dot.dot-iterator _ c.in-Some.ensures.steps
           (sym c.is_of_node.ensures ∙ c.if-not-is_of_node.false) c.in_ok-push.ensures.items c.loop-dot.invariant.all;
     }
@@ -39,9 +41,11 @@ returns c =
     elim c.match-next.branch [
       | in-None w ↦ ap (filter (λ (e : Dot × Place). (of_node c.args.node) e.0)) w.in-None.ensures.steps.0
       | in-Some+then-not-is_of_node w ↦
-          walk_breaks dot_cmp (dot_at c.args.node 0) (of_node c.args.node) (node_below c.args.node) (node_over c.args.node) (w.in-Some.dot.now, w.in-Some._place.now) c.next.new.self
+          walk_breaks dot_cmp (dot_at c.args.node 0) (of_node c.args.node) (node_below c.args.node)
+          (node_over c.args.node) (w.in-Some.dot.now, w.in-Some._place.now) c.next.new.self
           c.loop-dot.dot-iterator w.in-Some.ensures.steps c.loop-dot.invariant.ahead
           (sym w.is_of_node.ensures ∙ w.if-not-is_of_node.true)
     ] in
-    walk_done dot_cmp (dot_at c.args.node 0) (of_node c.args.node) (node_below c.args.node) (node_over c.args.node) (λ (e : Dot × Place). e.0) c.loop-dot.dots.items c.loop-dot.dot-iterator _ none
+    walk_done dot_cmp (dot_at c.args.node 0) (of_node c.args.node) (node_below c.args.node) (node_over c.args.node) (λ
+    (e : Dot × Place). e.0) c.loop-dot.dots.items c.loop-dot.dot-iterator _ none
     c.loop-dot.invariant.all

@@ -19,7 +19,9 @@ loop-place-init c =
     record {
       ahead = subst (λ (es : List (Place × Json)). Ahead place_cmp (least_on c.args.topic.now) es) (sym walk)
           (ahead_from place_cmp (least_on c.args.topic.now) c.args.marks.now c.len-len.ensures.rising);
-      all = walk_starts place_cmp (least_on c.args.topic.now) (of_topic c.args.topic.now) (topic_below c.args.topic.now) (topic_over c.args.topic.now) (λ (e : Place × Json). held_of (mark_of e)) c.new-out.result.items c.new-out.ensures.items
+      all = walk_starts place_cmp (least_on c.args.topic.now) (of_topic c.args.topic.now)
+          (topic_below c.args.topic.now) (topic_over c.args.topic.now) (λ (e : Place
+          × Json). held_of (mark_of e)) c.new-out.result.items c.new-out.ensures.items
           c.args.marks.now c.into_iter-place-iterator.result walk;
     }
 
@@ -30,10 +32,13 @@ loop-place-preserved c =
       ahead = ahead_rest place_cmp (least_on c.args.topic.now) here c.next.new.self
           (subst (λ (es : List (Place × Json)). Ahead place_cmp (least_on c.args.topic.now) es) c.in-Some.ensures.steps
           c.loop-place.invariant.ahead);
-      all = walk_goes place_cmp (least_on c.args.topic.now) (of_topic c.args.topic.now) (topic_below c.args.topic.now) (topic_over c.args.topic.now) (λ (e : Place × Json). held_of (mark_of e)) c.loop-place.out.items c.push.new.self.items here
+      all = walk_goes place_cmp (least_on c.args.topic.now) (of_topic c.args.topic.now) (topic_below c.args.topic.now)
+          (topic_over c.args.topic.now) (λ (e :
+          Place × Json). held_of (mark_of e)) c.loop-place.out.items c.push.new.self.items here
           c.next.new.self c.loop-place.place-iterator _ c.in-Some.ensures.steps
           (sym c.is_on.ensures ∙ c.if-not-is_on.false)
-          (c.in_ok-push.ensures.items ∙ ap (λ (h : Held). c.loop-place.out.items ++ h ∷ []) c.in_ok-held.ensures) c.loop-place.invariant.all;
+          (c.in_ok-push.ensures.items ∙ ap (λ (h :
+          Held). c.loop-place.out.items ++ h ∷ []) c.in_ok-held.ensures) c.loop-place.invariant.all;
     }
 
 pub returns : goal.returns
@@ -42,9 +47,12 @@ returns c =
     elim c.match-next.branch [
       | in-None w ↦ ap (filter (λ (e : Place × Json). (of_topic c.args.topic.now) e.0)) w.in-None.ensures.steps.0
       | in-Some+then-not-is_on w ↦
-          walk_breaks place_cmp (least_on c.args.topic.now) (of_topic c.args.topic.now) (topic_below c.args.topic.now) (topic_over c.args.topic.now) (w.in-Some.place.now, w.in-Some.tree.now) c.next.new.self
+          walk_breaks place_cmp (least_on c.args.topic.now) (of_topic c.args.topic.now) (topic_below c.args.topic.now)
+          (topic_over c.args.topic.now) (w.in-Some.place.now, w.in-Some.tree.now) c.next.new.self
           c.loop-place.place-iterator w.in-Some.ensures.steps c.loop-place.invariant.ahead
           (sym w.is_on.ensures ∙ w.if-not-is_on.true)
     ] in
-    walk_done place_cmp (least_on c.args.topic.now) (of_topic c.args.topic.now) (topic_below c.args.topic.now) (topic_over c.args.topic.now) (λ (e : Place × Json). held_of (mark_of e)) c.loop-place.out.items c.loop-place.place-iterator _ none
+    walk_done place_cmp (least_on c.args.topic.now) (of_topic c.args.topic.now) (topic_below c.args.topic.now)
+    (topic_over c.args.topic.now) (λ (e :
+    Place × Json). held_of (mark_of e)) c.loop-place.out.items c.loop-place.place-iterator _ none
     c.loop-place.invariant.all

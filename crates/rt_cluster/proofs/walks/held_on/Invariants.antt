@@ -12,6 +12,7 @@ use Rattle.rt_cluster.proofs.walks.held_on.Given as goal
 abbrev pub invariant-loop-place : goal.invariant-loop-place
 invariant-loop-place l = record {
   ahead : Ahead place_cmp (least_on l.topic) l.place-iterator;
-  all : l.out.items ++ map (λ (e : Place × Json). held_of (mark_of e)) (filter (λ e. bytes_eq e.0.topic l.topic) l.place-iterator)
+  all : l.out.items ++ map (λ (e :
+      Place × Json). held_of (mark_of e)) (filter (λ e. bytes_eq e.0.topic l.topic) l.place-iterator)
       ≡ map (λ (e : Place × Json). held_of (mark_of e)) (filter (λ e. bytes_eq e.0.topic l.topic) l.marks);
 }

@@ -9,6 +9,7 @@ returns-clause-ok c =
     λ known said stands told one behind. record {
       sets = done.sets known said stands.sets told one;
       rising = done.rising;
-      counted = done.made ∙ c.made-made.ensures ∙ stands.counted ∙ sym (last_stays c.args.self.now.node said known behind)
+      counted = done.made ∙ c.made-made.ensures ∙ stands.counted
+          ∙ sym (last_stays c.args.self.now.node said known behind)
           ∙ ap (λ n. last_number n (said ++ known)) (sym done.node);
     }

@@ -19,11 +19,13 @@ returns c = record {
   stands = record {
     sets = record {
       live_is_view =
-          subst (λ (es : List (Place × Json)). (m : Mark) → Contains (map mark_of es) m ↔ Contains [] m) (sym c.new.ensures)
+          subst (λ (es : List (Place × Json)). (m : Mark)
+          → Contains (map mark_of es) m ↔ Contains [] m) (sym c.new.ensures)
           (λ m. (λ h. h, λ h. h));
       seen_are_dots = λ d. ap (λ (ds : List Dot). is_among ds d) c.new-3.ensures;
     };
-    rising = subst (λ (es : List (Place × Json)). IsStrictlySortedBy mark_cmp (map mark_of es)) (sym c.new.ensures) none_rise;
+    rising = subst (λ (es :
+        List (Place × Json)). IsStrictlySortedBy mark_cmp (map mark_of es)) (sym c.new.ensures) none_rise;
     counted = refl;
   };
   node = refl;

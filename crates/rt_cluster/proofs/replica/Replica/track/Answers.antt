@@ -29,7 +29,8 @@ returns c =
     (is_among (own ++ dot_at node n ∷ [])) ops) (sym (next known stands)) base in
     let shown = subst (λ (ms : List Mark). StandFor (Contains ms)
     (is_among (own ++ dot_at node (c.made-number.result + 1) ∷ [])) ops) (sym c.in_ok-delta.ensures.live) numbered in
-    subst (λ (ds : List Dot). StandFor (Contains delta.live) (is_among ds) ops) (sym c.in_ok-delta.ensures.seen) shown in
+    subst (λ (ds : List Dot). StandFor (Contains delta.live) (is_among ds) ops)
+    (sym c.in_ok-delta.ensures.seen) shown in
     let done = c.in_ok-take_in.ensures in
     record {
       ok = λ known stands one. record {
