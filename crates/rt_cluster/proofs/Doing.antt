@@ -1,9 +1,9 @@
 -- What a node does stands for what it says, and it stands for that from then on.
-use Rattle.std.proofs.Common.{◌≡◌, ◌⊎◌, ◌↔◌, ◌≤◌, ◌+◌, ℕ, Bool, true, false, ◌||◌, ◌&&◌, not, cond, max, List, [], ◌∷◌, ◌++◌, map, Option, Some, None, is_some, IsSome, refl, sym, ap, subst, ◌∙◌, inl, inr, arith, append-nil}
+use Rattle.std.proofs.Common.{◌≡◌, ◌↔◌, ◌≤◌, ◌+◌, ℕ, Bool, true, false, ◌||◌, ◌&&◌, not, cond, max, List, [], ◌∷◌, ◌++◌, map, Option, Some, None, is_some, IsSome, refl, sym, ap, subst, ◌∙◌, inl, inr, arith, append-nil}
 use Rattle.std.specs.Prelude.{Contains, ◌==◌}
-use Rattle.std.specs.List.{filter, list_any}
+use Rattle.std.specs.List.{filter}
 use Rattle.std.specs.Map.{keys_of}
-use Rattle.std.proofs.lemmas.Bool.{and_parts, eqb-true, eq-eqb}
+use Rattle.std.proofs.lemmas.Bool.{and_parts, eq-eqb}
 use Rattle.rt_json.specs.declared.tree.Json.{Json}
 use Rattle.rt_ptree.specs.Entries.{IsRising}
 use Rattle.rt_value.proofs.Among.{Among, to_contains, from_contains, among_filter, filter_among}
@@ -11,12 +11,11 @@ use Rattle.rt_value.proofs.Plain.{any_append, filter_map_swap, map_map}
 use Rattle.rt_cluster.specs.declared.dots.Dot.{Dot}
 use Rattle.rt_cluster.specs.declared.dots.Mark.{Mark}
 use Rattle.rt_cluster.specs.declared.places.Place.{Place}
-use Rattle.rt_cluster.specs.Operations.{Operation, tracks, removes, marks_of, gone_of, dots_of, view, is_dot, is_among, is_told}
+use Rattle.rt_cluster.specs.Operations.{Operation, removes, marks_of, view, is_dot, is_among, is_told}
 use Rattle.rt_cluster.specs.Operations.{last_in, last_number, is_own, dots_where, dot_at, mark_at, tracked, HasOneTrackADot}
-use Rattle.rt_cluster.specs.Index.{dot_cmp, place_cmp, place_at, place_of, mark_of, tree_at, placed_at, Holds, IsIndexed, is_beside}
+use Rattle.rt_cluster.specs.Index.{place_cmp, place_of, mark_of, tree_at, placed_at, IsIndexed}
 use Rattle.rt_cluster.specs.Standing.{StandFor}
-use Rattle.rt_cluster.proofs.DotLists.{same_dot, dot_itself, told_is, marked, marks_dot, of_view}
-use Rattle.rt_cluster.proofs.Indexed.{split}
+use Rattle.rt_cluster.proofs.DotLists.{same_dot, told_is, marked, marks_dot, of_view}
 use Rattle.rt_cluster.proofs.DotKeys.{has_key}
 use Rattle.rt_cluster.proofs.Entries.{holds_is}
 

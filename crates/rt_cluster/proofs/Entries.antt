@@ -1,10 +1,9 @@
 -- The entries of a map as marks.
-use Rattle.std.proofs.Common.{◌≡◌, ◌↔◌, List, [], ◌∷◌, map, Some, refl, sym, ap, subst, ◌∙◌}
+use Rattle.std.proofs.Common.{◌≡◌, ◌↔◌, List, [], ◌∷◌, map, subst}
 use Rattle.std.specs.Prelude.{Contains}
 use Rattle.std.specs.List.{AllByRecursion}
 use Rattle.std.specs.List.Sorted.{IsStrictlySortedBy}
 use Rattle.std.specs.Map.{keys_of}
-use Rattle.std.specs.Ordering.{eq_by_cmp}
 use Rattle.std.specs.declared.cmp.Ordering.TheVariants.{Less}
 use Rattle.std.proofs.lemmas.Cmp.{eq_by_cmp_equiv}
 use Rattle.std.proofs.lemmas.Map.Keys.{IsDistinct-from_sorted}
@@ -14,7 +13,7 @@ use Rattle.rt_ptree.specs.Entries.{IsRising}
 use Rattle.rt_value.proofs.Among.{Among, to_contains, from_contains, among_map, map_among}
 use Rattle.rt_cluster.specs.declared.dots.Mark.{Mark}
 use Rattle.rt_cluster.specs.declared.places.Place.{Place}
-use Rattle.rt_cluster.specs.Index.{place_cmp, place_of, mark_of, tree_at, Holds}
+use Rattle.rt_cluster.specs.Index.{place_cmp, place_of, mark_of, Holds}
 use Rattle.rt_cluster.specs.Shown.{mark_cmp}
 use Rattle.rt_cluster.proofs.Indexed.{place_total, place_exact}
 

@@ -1,17 +1,17 @@
 -- What a merge makes of the marks and dots of a replica stands for the operations of both.
-use Rattle.std.proofs.Common.{◌≡◌, ◌⊎◌, ◌↔◌, ◌≤◌, ℕ, Bool, true, false, ◌||◌, ◌&&◌, not, cond, max, List, [], ◌∷◌, ◌++◌, Option, Some, None, refl, sym, ap, subst, ◌∙◌, inl, inr, arith}
+use Rattle.std.proofs.Common.{◌≡◌, ◌⊎◌, ◌↔◌, ◌≤◌, ℕ, Bool, true, false, ◌||◌, ◌&&◌, not, cond, max, List, [], ◌∷◌, ◌++◌, None, refl, sym, ap, subst, ◌∙◌, inl, inr, arith}
 use Rattle.std.specs.Prelude.{Contains, ◌==◌}
-use Rattle.std.proofs.lemmas.Bool.{not-true, eqb-true}
+use Rattle.std.proofs.lemmas.Bool.{eqb-true}
 use Rattle.rt_json.specs.declared.tree.Json.{Json}
 use Rattle.rt_value.proofs.Among.{Among, to_contains, from_contains, among_left}
 use Rattle.rt_cluster.specs.declared.dots.Dot.{Dot}
 use Rattle.rt_cluster.specs.declared.dots.Mark.{Mark}
 use Rattle.rt_cluster.specs.declared.places.Place.{Place}
-use Rattle.rt_cluster.specs.Operations.{Operation, marks_of, gone_of, dots_of, view, is_among, is_told, last_in, last_number}
+use Rattle.rt_cluster.specs.Operations.{Operation, marks_of, gone_of, is_among, is_told, last_in, last_number}
 use Rattle.rt_cluster.specs.Operations.{HasOneTrackADot}
-use Rattle.rt_cluster.specs.Standing.{StandFor, StandsFor, IsMerged, IsBehind}
+use Rattle.rt_cluster.specs.Standing.{StandFor, IsMerged, IsBehind}
 use Rattle.rt_cluster.specs.Index.{tree_at, place_of, Holds, HasOneADot}
-use Rattle.rt_cluster.proofs.DotLists.{or_parts, marked, marks_dot, marks_both, dots_are, of_view}
+use Rattle.rt_cluster.proofs.DotLists.{marked, marks_dot, marks_both, dots_are, of_view}
 use Rattle.rt_cluster.proofs.Indexed.{chosen, other, not_both, split}
 use Rattle.rt_cluster.proofs.Sets.{merged_for}
 

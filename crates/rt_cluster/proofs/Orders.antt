@@ -1,11 +1,9 @@
 -- Marks in order: lists of the same marks have one order, so the same operations show the same.
-use Rattle.std.proofs.Common.{◌≡◌, ◌⊎◌, ◌↔◌, ℕ, Bool, true, false, ◌||◌, not, List, [], ◌∷◌, ◌++◌, map, refl, sym, ap, subst, ◌∙◌, inl, inr}
-use Rattle.std.specs.Prelude.{⊤, Contains}
+use Rattle.std.proofs.Common.{◌≡◌, Bool, true, false, ◌||◌, List, [], ◌∷◌, refl, sym, ap, subst, ◌∙◌, inl, inr}
 use Rattle.std.specs.List.{AllByRecursion, flat_map, list_any}
 use Rattle.std.specs.List.Sorted.{IsStrictlySortedBy}
 use Rattle.std.specs.Cmp.{IsTotalOrder, tied_itself}
-use Rattle.std.specs.Ordering.{nat_cmp, ordering_then, ordering_reverse, is_eq, eq_by_cmp}
-use Rattle.std.specs.Cmp.Lexicographic.{slice_cmp}
+use Rattle.std.specs.Ordering.{ordering_then, ordering_reverse, is_eq, eq_by_cmp}
 use Rattle.std.specs.declared.cmp.Ordering.{Ordering}
 use Rattle.std.specs.declared.cmp.Ordering.TheVariants.{Less, Equal, Greater}
 use Rattle.std.proofs.lemmas.Cmp.{nat_cmp_total, nat_list_cmp_total, on_total, then_total}
@@ -16,12 +14,12 @@ use Rattle.rt_value.proofs.Plain.{all_among, any_among}
 use Rattle.rt_value.proofs.InOrder as order
 use Rattle.rt_cluster.specs.declared.dots.Dot.{Dot}
 use Rattle.rt_cluster.specs.declared.dots.Mark.{Mark}
-use Rattle.rt_cluster.specs.Operations.{Operation, marks_by, gone_by, marks_of, gone_of, view, is_dot, is_among, dot_at}
+use Rattle.rt_cluster.specs.Operations.{Operation, marks_by, gone_by, gone_of, view, is_dot, is_among, dot_at}
 use Rattle.rt_cluster.specs.Operations.{SameOperations, HasOneTrackADot}
-use Rattle.rt_cluster.specs.Shown.{mark_cmp, state_tree, presence}
+use Rattle.rt_cluster.specs.Shown.{mark_cmp, state_tree}
 use Rattle.rt_cluster.specs.Standing.{Known, Stands}
 use Rattle.rt_cluster.specs.Laws.{Converges, ReplicasShow, ReplicasAgree}
-use Rattle.rt_cluster.proofs.DotLists.{same_dot, dot_itself, true_or_false, in_view, of_view}
+use Rattle.rt_cluster.proofs.DotLists.{in_view, of_view}
 
 pub mark_total : IsTotalOrder mark_cmp
 mark_total =

@@ -1,8 +1,8 @@
 -- Runs of dots: which dots they have, as a list and by look-up; one more at the end; and those beyond.
-use Rattle.std.proofs.Common.{◌≡◌, ◌⊎◌, ◌≤◌, ◌<◌, ◌+◌, ℕ, zero, suc, Bool, true, false, ◌||◌, ◌&&◌, cond, List, [], ◌∷◌, ◌++◌, map, Option, Some, None, is_some, refl, sym, ap, ◌∙◌, inl, inr, arith, nat_cmp}
+use Rattle.std.proofs.Common.{◌≡◌, ◌≤◌, ◌<◌, ◌+◌, ℕ, zero, suc, Bool, true, false, ◌||◌, ◌&&◌, cond, List, [], ◌∷◌, ◌++◌, map, Option, Some, None, is_some, refl, sym, ap, ◌∙◌, inl, inr, arith, nat_cmp}
 use Rattle.std.specs.Prelude.{◌==◌, nat_le}
 use Rattle.std.specs.BTreeMap.{is_at}
-use Rattle.std.specs.List.{AllByRecursion, filter, flat_map, list_any, range_with_len}
+use Rattle.std.specs.List.{AllByRecursion, flat_map, range_with_len}
 use Rattle.std.specs.List.Sorted.{IsStrictlySortedBy}
 use Rattle.std.specs.Map.{keys_of}
 use Rattle.std.specs.Option.{unwrap_or}
@@ -19,8 +19,8 @@ use Rattle.rt_cluster.specs.declared.dots.Dot.{Dot}
 use Rattle.rt_cluster.specs.Operations.{is_dot, is_among, dot_at}
 use Rattle.rt_cluster.specs.Index.{dot_cmp}
 use Rattle.rt_cluster.specs.Runs.{run_dots, dots_in, last_at, within, seen_in}
-use Rattle.rt_cluster.proofs.DotLists.{same_dot, dot_itself}
-use Rattle.rt_cluster.proofs.Indexed.{at_dot, dot_at_itself, at_is_dot, chosen, other, split}
+use Rattle.rt_cluster.proofs.DotLists.{same_dot}
+use Rattle.rt_cluster.proofs.Indexed.{at_is_dot, chosen, other, split}
 use Rattle.rt_cluster.proofs.DotKeys.{has_key, some_or}
 use Rattle.rt_cluster.proofs.Taking.{dot_sym}
 use Rattle.rt_cluster.proofs.Fronts.{le_of, none_below}

@@ -1,7 +1,6 @@
 -- What a merge keeps stands for the operations of both sides.
-use Rattle.std.proofs.Common.{◌≡◌, ◌⊎◌, ◌↔◌, ℕ, Bool, true, false, ◌||◌, List, ◌++◌, map, refl, sym, ap, subst, ◌∙◌, inl, inr}
+use Rattle.std.proofs.Common.{◌≡◌, ◌↔◌, Bool, true, false, ◌||◌, List, ◌++◌, refl, sym, ap, subst, ◌∙◌, inl, inr}
 use Rattle.std.specs.Prelude.{Contains}
-use Rattle.std.specs.List.{list_any}
 use Rattle.rt_value.proofs.Among.{Among, to_contains, from_contains, among_left, among_right, among_either}
 use Rattle.rt_value.proofs.Plain.{any_append}
 use Rattle.rt_cluster.specs.declared.dots.Dot.{Dot}

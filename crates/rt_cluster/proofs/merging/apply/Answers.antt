@@ -1,4 +1,4 @@
-use Rattle.std.proofs.Common.{◌≡◌, ◌⊎◌, ◌||◌, ◌&&◌, not, cond, Bool, true, false, List, None, refl, sym, ap, subst, ◌∙◌}
+use Rattle.std.proofs.Common.{◌≡◌, ◌⊎◌, ◌||◌, ◌&&◌, not, cond, Bool, true, false, List, None, refl, ap, subst, ◌∙◌}
 use Rattle.std.specs.Prelude.{Contains}
 use Rattle.rt_cluster.specs.declared.dots.Dot.{Dot}
 use Rattle.rt_cluster.specs.declared.dots.Mark.{Mark}

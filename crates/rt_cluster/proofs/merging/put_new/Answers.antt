@@ -1,9 +1,6 @@
-use Rattle.std.proofs.Common.{◌≡◌, ◌⊎◌, ◌++◌, ◌∷◌, [], ◌+◌, List, refl, sym, ap, subst, ◌∙◌, inl, inr, take, take_all, false}
-use Rattle.std.specs.Prelude.{Contains}
+use Rattle.std.proofs.Common.{◌≡◌, ◌++◌, ◌∷◌, [], ◌+◌, List, sym, ap, subst, ◌∙◌, inl, inr, take, take_all}
 use Rattle.rt_value.proofs.Among.{Among, to_contains, from_contains}
 use Rattle.rt_cluster.specs.declared.dots.Mark.{Mark}
-use Rattle.rt_cluster.specs.Operations.{is_among}
-use Rattle.rt_cluster.specs.Index.{Holds}
 use Rattle.rt_cluster.proofs.Putting.{HasPut, none_put, skipped, put_one, put_same, no_place}
 use Rattle.rt_cluster.proofs.Taking.{take_next, take_among}
 use Rattle.rt_cluster.proofs.merging.put_new.Goals as goal

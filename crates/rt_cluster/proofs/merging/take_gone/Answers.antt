@@ -1,5 +1,4 @@
 use Rattle.std.proofs.Common.{◌+◌, List, sym, subst, ◌∙◌, take, take_all, get_or}
-use Rattle.std.proofs.lemmas.Bool.{not-true, not-false}
 use Rattle.rt_cluster.specs.declared.dots.Dot.{Dot}
 use Rattle.rt_cluster.specs.Operations.{dot_at}
 use Rattle.rt_cluster.proofs.Taking.{HasTaken, none_taken, passed_next, taken_next, taken_same, among_next}

@@ -1,4 +1,4 @@
-use Rattle.std.proofs.Common.{◌≡◌, Some, rules}
+use Rattle.std.proofs.Common.{Some, rules}
 use Rattle.rt_ptree.specs.Entries.{Updates}
 use Rattle.rt_cluster.specs.Index.{dot_cmp, place_cmp, place_of}
 use Rattle.rt_cluster.proofs.Indexed.{put_indexed}

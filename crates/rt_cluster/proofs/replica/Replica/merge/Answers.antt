@@ -1,4 +1,4 @@
-use Rattle.std.proofs.Common.{◌≡◌, ◌++◌, sym, ap, ◌∙◌}
+use Rattle.std.proofs.Common.{◌++◌, sym, ap, ◌∙◌}
 use Rattle.rt_cluster.specs.Operations.{last_number}
 use Rattle.rt_cluster.proofs.Merged.{last_stays}
 use Rattle.rt_cluster.proofs.replica.Replica.merge.Goals as goal

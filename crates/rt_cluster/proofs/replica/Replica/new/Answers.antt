@@ -1,4 +1,4 @@
-use Rattle.std.proofs.Common.{◌≡◌, ◌↔◌, List, [], map, refl, sym, ap, subst}
+use Rattle.std.proofs.Common.{◌↔◌, List, [], map, refl, sym, ap, subst}
 use Rattle.std.specs.Prelude.{Contains}
 use Rattle.std.specs.List.Sorted.{IsStrictlySortedBy}
 use Rattle.rt_json.specs.declared.tree.Json.{Json}

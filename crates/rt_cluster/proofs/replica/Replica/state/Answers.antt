@@ -2,7 +2,7 @@ use Rattle.std.proofs.Common.{◌≡◌, List, map, sym, ap, ◌∙◌}
 use Rattle.std.specs.List.{filter}
 use Rattle.std.specs.Str.{bytes_eq}
 use Rattle.rt_json.specs.declared.tree.Json.{Json}
-use Rattle.rt_presence.specs.Trees.{Held, metas_tree}
+use Rattle.rt_presence.specs.Trees.{metas_tree}
 use Rattle.rt_value.proofs.Plain.{filter_map_swap, map_map}
 use Rattle.rt_cluster.specs.declared.dots.Mark.{Mark}
 use Rattle.rt_cluster.specs.declared.places.Place.{Place}

@@ -1,4 +1,4 @@
-use Rattle.std.proofs.Common.{◌≡◌, ◌++◌, List, map, refl, sym, ap, subst, ◌∙◌}
+use Rattle.std.proofs.Common.{◌++◌, List, map, refl, sym, ap, subst}
 use Rattle.std.specs.Prelude.{Contains}
 use Rattle.rt_json.specs.declared.tree.Json.{Json}
 use Rattle.rt_cluster.specs.declared.dots.Dot.{Dot}
