@@ -25,10 +25,13 @@ Held = List ℕ × Json
 abbrev pub is_kept : Member → Bool
 is_kept m = not (bytes_eq m.name (codes "phx_ref"))
 
--- the track's number as `phx_ref`, then the tracked object's members but one of that name
+-- the reference as `phx_ref`, then the tracked object's members but those of that name
+abbrev pub meta_with : List ℕ → Json → Json
+meta_with reference tree = j.Object (field (codes "phx_ref") (Text reference) ∷ filter is_kept (members_of tree))
+
+-- with the track's number as reference
 abbrev pub meta_object : ℕ → Json → Json
-meta_object reference tree = j.Object
-    (field (codes "phx_ref") (Text (decimal reference)) ∷ filter is_kept (members_of tree))
+meta_object reference tree = meta_with (decimal reference) tree
 
 abbrev pub meta_tree : Meta → Json
 meta_tree m = meta_object m.reference m.tree

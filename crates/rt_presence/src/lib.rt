@@ -11,4 +11,4 @@ mod trees;
 pub use differences::{Diff, Meta};
 pub use present::Presence;
 pub use tracks::TrackKey;
-pub use trees::difference_tree;
+pub use trees::{difference_tree, meta, metas_tree};

@@ -3,7 +3,7 @@ ghost use Rattle.std.specs.Prelude.{◌≡◌, ◌++◌, ◌∷◌, [], IfOk, On
 ghost use Rattle.std.specs.Prelude.{option_map, option_to_list};
 ghost use Rattle.rt_json.specs.Lookup.{members_of};
 ghost use Rattle.rt_json.specs.Trees.{field};
-ghost use Rattle.rt_presence.specs.Trees.{is_kept, meta_object, metas_member, metas_tree, added};
+ghost use Rattle.rt_presence.specs.Trees.{is_kept, meta_with, meta_object, metas_member, metas_tree, added};
 ghost use Rattle.rt_presence.specs.Trees.{all_added, joins_of, leaves_of, difference_tree, under};
 ghost use Rattle.rt_presence.specs.Trees.{put_last, groups_tree};
 
@@ -57,15 +57,24 @@ fn put_tree(alloc: Global, tree: &Json, out: &mut Vec<Member>) -> Result<(), All
     }
 }
 
-/// The tree of a meta.
+/// The tree of a meta: the reference as `phx_ref`, then the members of the tracked object but those
+/// of that name. Fails for want of memory alone.
+pub fn meta(alloc: Global, reference: &Text, tree: &Json) -> Result<Json, AllocError>
+    ensures { IfOk result (λ t. t ≡ meta_with reference.now tree.now) }
+{
+    let text = Json::Text(reference.copy(alloc)?);
+    let mut members = Vec::new(alloc);
+    members.push(member(alloc, "phx_ref", text)?)?;
+    put_tree(alloc, tree, &mut members)?;
+    Ok(Json::Object(List::new(members)))
+}
+
+/// The tree of a meta with the track's number as reference.
 pub fn meta_object(alloc: Global, reference: u32, tree: &Json) -> Result<Json, AllocError>
     ensures { IfOk result (λ t. t ≡ meta_object reference tree.now) }
 {
-    let digits = Json::Text(Text::new(format!(in alloc; "{reference}")?));
-    let mut members = Vec::new(alloc);
-    members.push(member(alloc, "phx_ref", digits)?)?;
-    put_tree(alloc, tree, &mut members)?;
-    Ok(Json::Object(List::new(members)))
+    let digits = Text::new(format!(in alloc; "{reference}")?);
+    meta(alloc, &digits, tree)
 }
 
 fn add(alloc: Global, groups: &mut Groups, key: Text, meta: Json) -> Result<(), AllocError>
@@ -121,8 +130,9 @@ fn group_members(alloc: Global, mut groups: Groups) -> Result<Vec<Member>, Alloc
     Ok(members)
 }
 
-// The metas under each key, the keys in byte order.
-fn metas_tree(alloc: Global, held: Vec<Held>) -> Result<Json, AllocError>
+/// The metas under each key, the keys in byte order, the metas of a key in the order of the list.
+/// Fails for want of memory alone.
+pub fn metas_tree(alloc: Global, held: Vec<(Text, Json)>) -> Result<Json, AllocError>
     ensures { IfOk result (λ tree. tree ≡ metas_tree held.items) }
 {
     let groups = grouped(alloc, held)?;

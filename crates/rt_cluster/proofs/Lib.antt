@@ -1,0 +1,14 @@
+pub mod Computed
+pub mod DotLists
+pub mod Sets
+pub mod Orders
+pub mod Indexed
+pub mod Putting
+pub mod Taking
+pub mod Entries
+pub mod Merged
+pub mod Blocks
+pub mod DotKeys
+pub mod Fronts
+pub mod Doing
+pub mod RunLists
