@@ -4,6 +4,7 @@ use Rattle.std.specs.Prelude.{Contains, ◌==◌}
 use Rattle.std.specs.List.{filter}
 use Rattle.std.specs.Map.{keys_of}
 use Rattle.std.proofs.lemmas.Bool.{and_parts, eq-eqb}
+use Rattle.rt_value.proofs.Tests.{same_tests}
 use Rattle.rt_json.specs.declared.tree.Json.{Json}
 use Rattle.rt_ptree.specs.Entries.{IsRising}
 use Rattle.rt_value.proofs.Among.{Among, to_contains, from_contains, among_filter, filter_among}
@@ -19,11 +20,6 @@ use Rattle.rt_cluster.proofs.DotLists.{same_dot, told_is, marked, marks_dot, of_
 use Rattle.rt_cluster.proofs.DotKeys.{has_key}
 use Rattle.rt_cluster.proofs.Entries.{holds_is}
 
-same_bool : (a b : Bool) → (a ≡ true → b ≡ true) → (b ≡ true → a ≡ true) → a ≡ b
-same_bool true b f g = sym (f refl)
-same_bool false true f g = g refl
-same_bool false false f g = refl
-
 -- the dots of the marks that pass a test, of two lists of the same marks
 
 dots_sub : (p : Mark → Bool) (ms ns : List Mark) → ((m : Mark) → Among ms m → Among ns m) → (d : Dot)
@@ -37,7 +33,7 @@ pub dots_same : (p : Mark → Bool) (ms ns : List Mark) → ((m : Mark) → Cont
     → is_among (map (λ (m : Mark). m.dot) (filter p ms)) d ≡ is_among (map (λ (m : Mark). m.dot) (filter p ns)) d
 dots_same p ms ns same d =
     told_is (filter p ms) d
-    ∙ same_bool (is_told (filter p ms) d) (is_told (filter p ns) d)
+    ∙ same_tests (is_told (filter p ms) d) (is_told (filter p ns) d)
     (dots_sub p ms ns (λ m h. from_contains _ _ ((same m).0 (to_contains _ _ h))) d)
     (dots_sub p ns ms (λ m h. from_contains _ _ ((same m).1 (to_contains _ _ h))) d)
     ∙ sym (told_is (filter p ns) d)
@@ -221,7 +217,7 @@ module _ (node : ℕ) where
     node_dots =
         keys_are d places
         ∙ ap (λ b. (node == d.node) && b) (sym (has_key places d))
-        ∙ same_bool ((node == d.node) && is_some (placed_at places d))
+        ∙ same_tests ((node == d.node) && is_some (placed_at places d))
         (is_told (filter (λ (m : Mark). node == m.dot.node) (map mark_of marks)) d)
         (λ h. let parts = and_parts _ _ h in placed_told (placed_at places d) refl parts.0 parts.1) told_placed
         ∙ sym (told_is (filter (λ (m : Mark). node == m.dot.node) (map mark_of marks)) d)

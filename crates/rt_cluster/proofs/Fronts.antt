@@ -14,6 +14,9 @@ use Rattle.std.proofs.lemmas.Cmp.{nat_cmp_total, nat_list_cmp_total, on_total, t
 use Rattle.std.proofs.lemmas.Map.Lookups.{exact_unsigned}
 use Rattle.std.proofs.lemmas.Map.Text.{is_eq-slice_cmp}
 use Rattle.std.proofs.lemmas.Slice.Eq.{bytes_eq-Decides}
+use Rattle.rt_presence.proofs.Walks.{then_not_greater}
+use Rattle.rt_presence.proofs.Orders.{is_eq_true}
+use Rattle.rt_value.proofs.Tests.{same_tests}
 use Rattle.rt_cluster.specs.declared.dots.Dot.{Dot}
 use Rattle.rt_cluster.specs.declared.places.Place.{Place}
 use Rattle.rt_cluster.specs.Operations.{dot_at}
@@ -30,26 +33,11 @@ is_eq_then Less p = refl
 is_eq_then Equal p = refl
 is_eq_then Greater p = refl
 
-is_equal : (o : Ordering) → is_eq o ≡ true → o ≡ Equal
-is_equal Less k = absurd (cc)
-is_equal Equal k = refl
-is_equal Greater k = absurd (cc)
-
-same_bool : (a b : Bool) → (a ≡ true → b ≡ true) → (b ≡ true → a ≡ true) → a ≡ b
-same_bool true b f g = sym (f refl)
-same_bool false true f g = g refl
-same_bool false false f g = refl
-
 is_eq_number : (m n : ℕ) → is_eq (nat_cmp m n) ≡ (m == n)
 is_eq_number m n =
-    same_bool (is_eq (nat_cmp m n)) (m == n)
-    (λ h. eq-eqb m n (exact_unsigned m n (is_equal _ h)))
+    same_tests (is_eq (nat_cmp m n)) (m == n)
+    (λ h. eq-eqb m n (exact_unsigned m n (is_eq_true _ h)))
     (λ h. ap is_eq (ap (nat_cmp m) (sym (eqb-true m n h)) ∙ tied_itself nat_cmp_total m))
-
-then_not_greater : (o p : Ordering) → (o ≡ Greater → ⊥) → (p ≡ Greater → ⊥) → ordering_then o p ≡ Greater → ⊥
-then_not_greater Less p f g h = absurd (cc)
-then_not_greater Equal p f g h = g h
-then_not_greater Greater p f g h = f refl
 
 pub none_below : (n : ℕ) → nat_cmp 0 n ≡ Greater → ⊥
 none_below n h = low n (nat_cmp 0 n) h (ranked 0 n (nat_cmp 0 n) refl) where
@@ -87,7 +75,7 @@ of_topic topic p = bytes_eq p.topic topic
 topic_is : (topic : List ℕ) (p : Place) → is_eq (slice_cmp nat_cmp topic p.topic) ≡ bytes_eq p.topic topic
 topic_is topic p =
     is_eq-slice_cmp topic p.topic
-    ∙ same_bool (bytes_eq topic p.topic) (bytes_eq p.topic topic)
+    ∙ same_tests (bytes_eq topic p.topic) (bytes_eq p.topic topic)
     (λ h. (bytes_eq-Decides p.topic topic).1 (sym ((bytes_eq-Decides topic p.topic).0 h)))
     (λ h. (bytes_eq-Decides topic p.topic).1 (sym ((bytes_eq-Decides p.topic topic).0 h)))
 

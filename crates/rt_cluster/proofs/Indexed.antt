@@ -7,6 +7,9 @@ use Rattle.std.specs.Cmp.{IsTotalOrder}
 use Rattle.std.specs.Ordering.{ordering_then, is_eq}
 use Rattle.std.proofs.lemmas.Cmp.{nat_cmp_total, nat_list_cmp_total, on_total, then_total, tied_itself}
 use Rattle.std.proofs.lemmas.Map.Lookups.{exact_unsigned, exact_bytes}
+use Rattle.rt_presence.proofs.Orders.{is_eq_true}
+use Rattle.rt_value.proofs.Ties.{both_equal}
+use Rattle.rt_value.proofs.Tests.{same_tests}
 use Rattle.rt_json.specs.declared.tree.Json.{Json}
 use Rattle.rt_ptree.specs.Entries.{Updates}
 use Rattle.rt_cluster.specs.declared.dots.Dot.{Dot}
@@ -24,16 +27,6 @@ place_total =
     then_total (on_total (λ (p : Place). p.topic) nat_list_cmp_total)
     (then_total (on_total (λ (p : Place). p.key) nat_list_cmp_total) (on_total (λ (p : Place). p.dot) dot_total))
 
-both_equal : (o p : Ordering) → ordering_then o p ≡ Equal → (o ≡ Equal) × (p ≡ Equal)
-both_equal Less p h = absurd (cc)
-both_equal Equal p h = (refl, h)
-both_equal Greater p h = absurd (cc)
-
-is_equal : (o : Ordering) → is_eq o ≡ true → o ≡ Equal
-is_equal Less k = absurd (cc)
-is_equal Equal k = refl
-is_equal Greater k = absurd (cc)
-
 pub dot_exact : (d e : Dot) → dot_cmp d e ≡ Equal → d ≡ e
 dot_exact d e h =
     let parts = both_equal _ _ h in
@@ -49,25 +42,20 @@ place_exact p q h =
     ∙ ap (place_at q.topic q.key) (dot_exact p.dot q.dot two.1)
 
 pub at_dot : (d e : Dot) → is_at (dot_cmp d) e ≡ true → d ≡ e
-at_dot d e h = dot_exact d e (is_equal _ h)
+at_dot d e h = dot_exact d e (is_eq_true _ h)
 
 pub dot_at_itself : (d : Dot) → is_at (dot_cmp d) d ≡ true
 dot_at_itself d = ap is_eq (tied_itself dot_total d)
 
 pub at_place : (p q : Place) → is_at (place_cmp p) q ≡ true → p ≡ q
-at_place p q h = place_exact p q (is_equal _ h)
+at_place p q h = place_exact p q (is_eq_true _ h)
 
 pub place_at_itself : (p : Place) → is_at (place_cmp p) p ≡ true
 place_at_itself p = ap is_eq (tied_itself place_total p)
 
-same_bool : (a b : Bool) → (a ≡ true → b ≡ true) → (b ≡ true → a ≡ true) → a ≡ b
-same_bool true b f g = sym (f refl)
-same_bool false true f g = g refl
-same_bool false false f g = refl
-
 pub at_is_dot : (d e : Dot) → is_at (dot_cmp d) e ≡ is_dot d e
 at_is_dot d e =
-    same_bool (is_at (dot_cmp d) e) (is_dot d e)
+    same_tests (is_at (dot_cmp d) e) (is_dot d e)
     (λ h. ap (is_dot d) (sym (at_dot d e h)) ∙ dot_itself d)
     (λ h. ap (is_at (dot_cmp d)) (sym (same_dot d e h)) ∙ dot_at_itself d)
 

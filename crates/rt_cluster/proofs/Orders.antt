@@ -8,6 +8,7 @@ use Rattle.std.specs.declared.cmp.Ordering.{Ordering}
 use Rattle.std.specs.declared.cmp.Ordering.TheVariants.{Less, Equal, Greater}
 use Rattle.std.proofs.lemmas.Cmp.{nat_cmp_total, nat_list_cmp_total, on_total, then_total}
 use Rattle.std.proofs.lemmas.Map.Lookups.{exact_unsigned}
+use Rattle.rt_value.proofs.Ties.{both_equal}
 use Rattle.rt_value.specs.Ordered.{in_order}
 use Rattle.rt_value.proofs.Among.{Among, to_contains, from_contains, among_flat, among_left, among_right}
 use Rattle.rt_value.proofs.Plain.{all_among, any_among}
@@ -35,11 +36,6 @@ rises : (ms : List Mark) → IsStrictlySortedBy mark_cmp ms → Rises ms
 unfolding IsStrictlySortedBy
 rises [] s = tt
 rises (m ∷ ms) s = (s.0, rises ms s.1)
-
-both_equal : (o p : Ordering) → ordering_then o p ≡ Equal → (o ≡ Equal) × (p ≡ Equal)
-both_equal Less p h = absurd (cc)
-both_equal Equal p h = (refl, h)
-both_equal Greater p h = absurd (cc)
 
 -- marks that tie have one dot
 tied_dots : (m n : Mark) → mark_cmp m n ≡ Equal → m.dot ≡ n.dot

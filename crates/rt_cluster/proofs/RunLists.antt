@@ -12,6 +12,8 @@ use Rattle.std.specs.declared.cmp.Ordering.TheVariants.{Less, Equal, Greater}
 use Rattle.std.proofs.lemmas.Bool.{and_parts, eqb-true, eq-eqb, leb-true, le-leb}
 use Rattle.std.proofs.lemmas.Cmp.{nat_cmp_total, tied_itself}
 use Rattle.std.proofs.lemmas.Map.Lookups.{exact_unsigned}
+use Rattle.rt_presence.proofs.Orders.{is_eq_true}
+use Rattle.rt_value.proofs.Tests.{same_tests, or_swap}
 use Rattle.rt_ptree.specs.Entries.{IsRising, Updates, value_at}
 use Rattle.rt_ptree.specs.Walk.{entries_from}
 use Rattle.rt_value.proofs.Plain.{any_append, filter_all, all_every}
@@ -25,18 +27,8 @@ use Rattle.rt_cluster.proofs.DotKeys.{has_key, some_or}
 use Rattle.rt_cluster.proofs.Taking.{dot_sym}
 use Rattle.rt_cluster.proofs.Fronts.{le_of, none_below}
 
-same_bool : (a b : Bool) → (a ≡ true → b ≡ true) → (b ≡ true → a ≡ true) → a ≡ b
-same_bool true b f g = sym (f refl)
-same_bool false true f g = g refl
-same_bool false false f g = refl
-
-is_equal : (o : Ordering) → is_eq o ≡ true → o ≡ Equal
-is_equal Less k = absurd (cc)
-is_equal Equal k = refl
-is_equal Greater k = absurd (cc)
-
 at_number : (m n : ℕ) → is_at (nat_cmp m) n ≡ true → m ≡ n
-at_number m n h = exact_unsigned m n (is_equal _ h)
+at_number m n h = exact_unsigned m n (is_eq_true _ h)
 
 number_at_itself : (n : ℕ) → is_at (nat_cmp n) n ≡ true
 number_at_itself n = ap is_eq (tied_itself nat_cmp_total n)
@@ -80,7 +72,7 @@ module _ (node : ℕ) (d : Dot) where
 
   pub run_is : (last : ℕ) → node ≡ d.node → is_among (run_dots (node, last)) d ≡ within (Some last) d.number
   run_is last e =
-      same_bool (is_among (run_dots (node, last)) d) (within (Some last) d.number)
+      same_tests (is_among (run_dots (node, last)) d) (within (Some last) d.number)
       (λ h.
       let r = run_within last 1 h in
       let low : 1 ≤ d.number = r.1 in
@@ -154,7 +146,7 @@ within_is None n = none (nat_le 1 n && nat_le n 0) refl where
 -- one longer
 longer_at : (o : Option ℕ) (n k : ℕ) → k ≡ unwrap_or o 0 + 1 → within (Some k) n ≡ ((n == k) || within o n)
 longer_at o n k e =
-    same_bool (within (Some k) n) ((n == k) || within o n)
+    same_tests (within (Some k) n) ((n == k) || within o n)
     (λ h. elim (split (n == k)) [
       | inl f ↦ ap (λ b. b || within o n) f
       | inr f ↦
@@ -235,12 +227,6 @@ module _ {V : Type 0} where
       ∙ moved_at (is_dot d dot) (within (last_at runs d.node) d.number) (value_at dot_cmp others d)
       (λ h. ap (λ (x : Dot). is_some (value_at dot_cmp others x)) (same_dot d dot h) ∙ there)
 
-or_moved : (a b c : Bool) → (a || (b || c)) ≡ (b || (a || c))
-or_moved true true c = refl
-or_moved true false c = refl
-or_moved false true c = refl
-or_moved false false c = refl
-
 or_nested : (a b c : Bool) → ((a || b) || c) ≡ (a || (b || c))
 or_nested true b c = refl
 or_nested false b c = refl
@@ -257,7 +243,7 @@ pub put_in_others : {V : Type 0} (runs : List (ℕ × ℕ)) (others more : List 
     → (d : Dot) → seen_in runs more d ≡ (is_dot d dot || seen_in runs others d)
 put_in_others runs others more dot put d =
     ap (λ b. within (last_at runs d.node) d.number || b) (put d)
-    ∙ or_moved (within (last_at runs d.node) d.number) (is_dot d dot) (is_some (value_at dot_cmp others d))
+    ∙ or_swap (within (last_at runs d.node) d.number) (is_dot d dot) (is_some (value_at dot_cmp others d))
 
 -- walks
 

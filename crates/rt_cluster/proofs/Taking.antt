@@ -3,6 +3,7 @@ use Rattle.std.proofs.Common.{◌≡◌, ℕ, ◌+◌, ◌<◌, Bool, true, fals
 use Rattle.std.proofs.Common.{is_some, IsSome, refl, sym, ap, subst, ◌∙◌, inl, inr, length, take, drop, get_or, add-one, take-suc, take-append-drop}
 use Rattle.std.specs.BTreeMap.{is_at}
 use Rattle.std.proofs.lemmas.List.Folds.{list_any_more}
+use Rattle.rt_value.proofs.Tests.{same_tests}
 use Rattle.rt_json.specs.declared.tree.Json.{Json}
 use Rattle.rt_ptree.specs.Entries.{Updates}
 use Rattle.rt_value.proofs.Among.{Among, among_front}
@@ -13,14 +14,9 @@ use Rattle.rt_cluster.specs.declared.dots.Dot.{Dot}
 use Rattle.rt_cluster.specs.Operations.{is_dot, is_among}
 use Rattle.rt_cluster.proofs.DotLists.{same_dot, dot_itself}
 
-same_bool : (a b : Bool) → (a ≡ true → b ≡ true) → (b ≡ true → a ≡ true) → a ≡ b
-same_bool true b f g = sym (f refl)
-same_bool false true f g = g refl
-same_bool false false f g = refl
-
 pub dot_sym : (d e : Dot) → is_dot d e ≡ is_dot e d
 dot_sym d e =
-    same_bool (is_dot d e) (is_dot e d) (λ h. ap (is_dot e) (same_dot d e h) ∙ dot_itself e)
+    same_tests (is_dot d e) (is_dot e d) (λ h. ap (is_dot e) (same_dot d e h) ∙ dot_itself e)
     (λ h. ap (is_dot d) (same_dot e d h) ∙ dot_itself d)
 
 -- of what was taken before (a), the next (b) and what is told (t)

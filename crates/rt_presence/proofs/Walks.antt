@@ -54,7 +54,7 @@ still_less topic t u e h = elim (topics_rise t u h) [
 
 -- no track of the topic is below the least that may be
 
-then_not_greater : (o p : Ordering) → (o ≡ Greater → ⊥) → (p ≡ Greater → ⊥) → ordering_then o p ≡ Greater → ⊥
+pub then_not_greater : (o p : Ordering) → (o ≡ Greater → ⊥) → (p ≡ Greater → ⊥) → ordering_then o p ≡ Greater → ⊥
 then_not_greater Less p f g h = absurd (cc)
 then_not_greater Equal p f g h = g h
 then_not_greater Greater p f g h = f refl
