@@ -2,6 +2,7 @@
 //! show (PostgreSQL, "Row Security Policies").
 #![tactic(auto)]
 
+mod building;
 mod caller;
 mod claims;
 mod evaluation;
@@ -12,16 +13,22 @@ mod judge;
 pub mod laws;
 mod lent;
 mod logic;
+mod outline;
+mod parsing;
+mod part;
 mod ranking;
 mod rules;
 mod scope;
+mod stack;
 mod tables;
+mod words;
 
 pub use caller::{Caller, Seen};
 pub use evaluation::{holds, sees};
 pub use expr::{Expr, Literal, Selected, TypeName};
 pub use fault::ExprFault;
 pub use judge::{Comparison, Judge, Tested, Truth};
+pub use parsing::parse;
 pub use rules::Rules;
 pub use scope::{ColumnView, Scope, TableView};
 pub use tables::{Policy, TableRules};
