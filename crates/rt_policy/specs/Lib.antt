@@ -1,7 +1,9 @@
 pub mod Grammar
 pub mod Joining
 pub mod Lent
+pub mod Machine
 pub mod Parse
+pub mod Parts
 pub mod Ranks
 pub mod Readings
 pub mod Resolution
@@ -9,4 +11,5 @@ pub mod Sizes
 pub mod Truth
 pub mod Types
 pub mod Visibility
+pub mod Words
 pub mod Worth

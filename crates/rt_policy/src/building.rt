@@ -1,4 +1,4 @@
-use crate::part::{Moved, Part, Source, begin, existing, exists_where, moved, selecting};
+use crate::part::{Moved, Part, Source, begin, existing, exists_where, part_moved, selecting};
 use crate::stack::{Stack, pushed};
 use crate::words::{Class, Look, Sign, Word};
 use crate::{Comparison, Expr, Tested};
@@ -236,7 +236,7 @@ fn after_negation(
 }
 
 /// What a NOT stood before, with the NOTs.
-struct Negated {
+struct Standing {
     stack: Stack<Frame>,
     level: Level,
     tree: Expr,
@@ -257,15 +257,15 @@ fn negated(
     stack: Stack<Frame>,
     level: Level,
     tree: Expr,
-) -> Result<Negated, AllocError> {
-    let mut now = Negated { stack, level, tree };
+) -> Result<Standing, AllocError> {
+    let mut now = Standing { stack, level, tree };
     loop {
-        let Negated { stack, level, tree } = now;
+        let Standing { stack, level, tree } = now;
         let (stack, outer) = waiting(stack)?;
         match outer {
-            None => return Ok(Negated { stack, level, tree }),
+            None => return Ok(Standing { stack, level, tree }),
             Some(outer) => {
-                now = Negated {
+                now = Standing {
                     stack,
                     level: outer,
                     tree: not(alloc, tree)?,
@@ -282,7 +282,7 @@ fn after_test(
     e: Expr,
     class: Option<Class>,
 ) -> Result<State, Stop> {
-    let Negated { stack, level, tree } = negated(alloc, stack, level, e)?;
+    let Standing { stack, level, tree } = negated(alloc, stack, level, e)?;
     let Level { ors, ands } = level;
     let ands = pushed(ands, tree)?;
     after_negation(alloc, stack, ors, ands, class)
@@ -406,7 +406,7 @@ fn within_part(
     look: Option<Look>,
 ) -> Result<State, Stop> {
     let (stack, level) = state;
-    match moved(alloc, text, part, look)? {
+    match part_moved(alloc, text, part, look)? {
         Moved::More(part) => Ok(within(stack, level, slot, part)),
         Moved::Done(e) => given(alloc, stack, level, slot, e),
         Moved::Over(e) => over(alloc, stack, level, slot, e, class_in(look)),

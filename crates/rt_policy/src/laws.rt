@@ -8,6 +8,9 @@ ghost use Rattle.rt_policy.specs.declared.judge.Judge.{Judge};
 ghost use Rattle.rt_value.specs.declared.value.Value.{Value};
 ghost use Rattle.rt_policy.specs.Worth.{Who, View, Place, IsWorth, worth};
 ghost use Rattle.rt_policy.specs.Visibility.{visibility, IsVisibility};
+ghost use Rattle.rt_sql.specs.Lexeme.{Lexeme};
+ghost use Rattle.rt_policy.specs.declared.expr.Expr.{Expr};
+ghost use Rattle.rt_policy.specs.Grammar.{Written};
 
 use crate::Rules;
 
@@ -29,4 +32,9 @@ pub fn visible_by_policies(rules: &Rules)
     ensures only { (who : Who) (rows : ℕ → List Row) (seen : ℕ → Row → Seen) →
         IsVisibility rules.now.tables who rows seen →
         (table : ℕ) (row : Row) → seen table row ≡ visibility rules.now.tables who rows table row }
+{}
+
+/// Tokens are one expression at most.
+pub fn one_expression()
+    ensures { (xs : List Lexeme) (a b : Expr) → Written a xs → Written b xs → a ≡ b }
 {}

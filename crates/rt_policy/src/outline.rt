@@ -1,4 +1,4 @@
-use crate::part::{Moved, Part, begin, existing, moved, selecting};
+use crate::part::{Moved, Part, begin, existing, part_moved, selecting};
 use crate::stack::Stack;
 use crate::words::{Class, Look, Sign, Word};
 use crate::Expr;
@@ -316,7 +316,7 @@ fn within_part(
     part: Part,
     look: Option<Look>,
 ) -> Result<Outline, Halt> {
-    match moved(alloc, text, part, look)? {
+    match part_moved(alloc, text, part, look)? {
         Moved::More(part) => Ok(at(around, Shape::Within(hole, part))),
         Moved::Done(e) => {
             discard(e);

@@ -5,11 +5,36 @@ use sqlite_items::Boxed;
 use std::alloc::{AllocError, Global};
 
 /// The functions of `auth`.
-#[derive(Clone, Copy, Debug, PartialEq, Eq)]
+#[derive(Clone, Copy)]
 pub enum Function {
     Uid,
     Role,
     Jwt,
+}
+
+/// What has to come before anything else.
+#[derive(Clone, Copy)]
+pub enum Wanted {
+    Number,
+    Open,
+    Close,
+    RightBracket,
+    Arrow,
+    Dot,
+    Auth,
+    Select,
+    From,
+    Time,
+    Zone,
+}
+
+/// The first words of types of several words, and every other.
+#[derive(Clone, Copy)]
+pub enum Head {
+    Timestamp,
+    Double,
+    Character,
+    Other,
 }
 
 /// What an EXISTS reads.
@@ -32,20 +57,20 @@ pub enum Goal {
     Minus,
     /// Behind `::`.
     Cast(Literal),
-    /// Behind the first word of a type. Of a quoted name the word is `Other`.
-    TypeWord(Literal, Word, Text),
+    /// Behind the first word of a type.
+    TypeWord(Literal, Head, Text),
     /// Behind `character varying`.
     Varying(Literal),
     /// Behind a type's first number.
     Length(Literal, Text),
     /// Behind a type's numbers.
     Lengthened(Literal, Text),
-    /// A column or a qualifier. Of a quoted name the word is `Other`.
-    Named(Word, Text),
+    /// A column or a qualifier, and whether it is the word `auth`.
+    Named(bool, Text),
     /// Behind a qualifier's dot.
-    Dotted(Word, Text),
+    Dotted(bool, Text),
     /// A column of a table `auth`, or a function.
-    Called(Function),
+    Called(Function, Text),
     /// Behind `->>`, and whether `(select` stands before.
     ClaimName(bool),
     /// Behind `(select auth .`
@@ -74,9 +99,9 @@ pub enum Goal {
 #[derive(Drop)]
 pub enum Part {
     At(Goal),
-    One(Class, Goal),
-    Two(Class, Class, Goal),
-    Three(Class, Class, Class, Goal),
+    One(Wanted, Goal),
+    Two(Wanted, Wanted, Goal),
+    Three(Wanted, Wanted, Wanted, Goal),
 }
 
 /// Where a token leads in an operand.
@@ -91,9 +116,6 @@ pub enum Moved {
     Condition(Source),
     Bad,
 }
-
-const OPEN: Class = Class::Sign(Sign::Open);
-const CLOSE: Class = Class::Sign(Sign::Close);
 
 pub fn is_name(class: Class) -> bool {
     match class {
@@ -126,6 +148,19 @@ fn word_in(class: Class) -> Word {
     match class {
         Class::Word(word) => word,
         _ => Word::Other,
+    }
+}
+
+fn is_auth(class: Class) -> bool {
+    matches!(class, Class::Word(Word::Auth))
+}
+
+fn head_of(word: Word) -> Head {
+    match word {
+        Word::Timestamp => Head::Timestamp,
+        Word::Double => Head::Double,
+        Word::Character => Head::Character,
+        _ => Head::Other,
     }
 }
 
@@ -167,7 +202,7 @@ pub fn begin(alloc: Global, text: &str, look: Look) -> Result<Option<Part>, Allo
         Class::Sign(Sign::Minus) => Goal::Minus,
         class => {
             if is_name(class) {
-                Goal::Named(word_in(class), named(alloc, text, look)?)
+                Goal::Named(is_auth(class), named(alloc, text, look)?)
             } else {
                 return Ok(None);
             }
@@ -185,11 +220,14 @@ fn after_constant(constant: Literal, class: Option<Class>) -> Moved {
 
 fn after_minus(alloc: Global, text: &str, look: Option<Look>) -> Result<Moved, AllocError> {
     match look {
-        Some(look) if look.class == Class::Number => Ok(at(Goal::Constant(Literal::Number {
-            minus: true,
-            digits: digits(alloc, text, look)?,
-        }))),
-        _ => Ok(Moved::Bad),
+        Some(look) => match look.class {
+            Class::Number => Ok(at(Goal::Constant(Literal::Number {
+                minus: true,
+                digits: digits(alloc, text, look)?,
+            }))),
+            _ => Ok(Moved::Bad),
+        },
+        None => Ok(Moved::Bad),
     }
 }
 
@@ -228,7 +266,7 @@ fn after_cast(
     look: Option<Look>,
 ) -> Result<Moved, AllocError> {
     match name_next(alloc, text, look)? {
-        Some(name) => Ok(at(Goal::TypeWord(constant, word_next(look), name))),
+        Some(name) => Ok(at(Goal::TypeWord(constant, head_of(word_next(look)), name))),
         None => Ok(Moved::Bad),
     }
 }
@@ -236,7 +274,7 @@ fn after_cast(
 fn after_name_of_type(constant: Literal, name: Text, class: Option<Class>) -> Moved {
     match class {
         Some(Class::Sign(Sign::Open)) => {
-            Moved::More(Part::One(Class::Number, Goal::Length(constant, name)))
+            Moved::More(Part::One(Wanted::Number, Goal::Length(constant, name)))
         }
         _ => after_numbers(constant, name, class),
     }
@@ -245,7 +283,7 @@ fn after_name_of_type(constant: Literal, name: Text, class: Option<Class>) -> Mo
 fn after_numbers(constant: Literal, name: Text, class: Option<Class>) -> Moved {
     match class {
         Some(Class::Sign(Sign::LeftBracket)) => Moved::More(Part::One(
-            Class::Sign(Sign::RightBracket),
+            Wanted::RightBracket,
             Goal::Whole(cast_to_name(constant, name, true)),
         )),
         _ => Moved::Over(cast_to_name(constant, name, false)),
@@ -254,25 +292,42 @@ fn after_numbers(constant: Literal, name: Text, class: Option<Class>) -> Moved {
 
 fn zoned(constant: Literal, name: TypeName) -> Moved {
     Moved::More(Part::Two(
-        Class::Word(Word::Time),
-        Class::Word(Word::Zone),
+        Wanted::Time,
+        Wanted::Zone,
         Goal::Whole(Expr::Cast(constant, name)),
     ))
 }
 
-fn after_type_word(constant: Literal, word: Word, name: Text, class: Option<Class>) -> Moved {
-    match (word, class) {
-        (Word::Timestamp, Some(Class::Word(Word::With))) => {
-            zoned(constant, TypeName::TimestampWithTimeZone)
-        }
-        (Word::Timestamp, Some(Class::Word(Word::Without))) => {
-            zoned(constant, TypeName::TimestampWithoutTimeZone)
-        }
-        (Word::Double, Some(Class::Word(Word::Precision))) => {
+fn after_timestamp(constant: Literal, name: Text, class: Option<Class>) -> Moved {
+    match class {
+        Some(Class::Word(Word::With)) => zoned(constant, TypeName::TimestampWithTimeZone),
+        Some(Class::Word(Word::Without)) => zoned(constant, TypeName::TimestampWithoutTimeZone),
+        _ => after_name_of_type(constant, name, class),
+    }
+}
+
+fn after_double(constant: Literal, name: Text, class: Option<Class>) -> Moved {
+    match class {
+        Some(Class::Word(Word::Precision)) => {
             Moved::Done(Expr::Cast(constant, TypeName::DoublePrecision))
         }
-        (Word::Character, Some(Class::Word(Word::Varying))) => at(Goal::Varying(constant)),
         _ => after_name_of_type(constant, name, class),
+    }
+}
+
+fn after_character(constant: Literal, name: Text, class: Option<Class>) -> Moved {
+    match class {
+        Some(Class::Word(Word::Varying)) => at(Goal::Varying(constant)),
+        _ => after_name_of_type(constant, name, class),
+    }
+}
+
+fn after_type_word(constant: Literal, head: Head, name: Text, class: Option<Class>) -> Moved {
+    match head {
+        Head::Timestamp => after_timestamp(constant, name, class),
+        Head::Double => after_double(constant, name, class),
+        Head::Character => after_character(constant, name, class),
+        Head::Other => after_name_of_type(constant, name, class),
     }
 }
 
@@ -280,7 +335,7 @@ fn after_varying(constant: Literal, class: Option<Class>) -> Moved {
     let whole = Expr::Cast(constant, TypeName::CharacterVarying);
     match class {
         Some(Class::Sign(Sign::Open)) => {
-            Moved::More(Part::Two(Class::Number, CLOSE, Goal::Whole(whole)))
+            Moved::More(Part::Two(Wanted::Number, Wanted::Close, Goal::Whole(whole)))
         }
         _ => Moved::Over(whole),
     }
@@ -289,15 +344,15 @@ fn after_varying(constant: Literal, class: Option<Class>) -> Moved {
 fn after_length(constant: Literal, name: Text, class: Option<Class>) -> Moved {
     let goal = Goal::Lengthened(constant, name);
     match class {
-        Some(Class::Sign(Sign::Comma)) => Moved::More(Part::Two(Class::Number, CLOSE, goal)),
+        Some(Class::Sign(Sign::Comma)) => Moved::More(Part::Two(Wanted::Number, Wanted::Close, goal)),
         Some(Class::Sign(Sign::Close)) => at(goal),
         _ => Moved::Bad,
     }
 }
 
-fn after_name(word: Word, name: Text, class: Option<Class>) -> Moved {
+fn after_name(auth: bool, name: Text, class: Option<Class>) -> Moved {
     match class {
-        Some(Class::Sign(Sign::Dot)) => at(Goal::Dotted(word, name)),
+        Some(Class::Sign(Sign::Dot)) => at(Goal::Dotted(auth, name)),
         _ => Moved::Over(column(None, name)),
     }
 }
@@ -311,23 +366,20 @@ fn function_of(word: Word) -> Option<Function> {
     }
 }
 
-/// The function of `auth` that a word names behind the word of a qualifier.
-fn called(qualifier: Word, word: Word) -> Option<Function> {
-    match qualifier {
-        Word::Auth => function_of(word),
-        _ => None,
-    }
+/// The function of `auth` that a word names behind a qualifier.
+fn called(auth: bool, word: Word) -> Option<Function> {
+    if auth { function_of(word) } else { None }
 }
 
 fn after_dot(
     alloc: Global,
     text: &str,
-    word: Word,
+    auth: bool,
     qualifier: Text,
     look: Option<Look>,
 ) -> Result<Moved, AllocError> {
-    match called(word, word_next(look)) {
-        Some(function) => Ok(at(Goal::Called(function))),
+    match called(auth, word_next(look)) {
+        Some(function) => Ok(at(Goal::Called(function, qualifier))),
         None => match name_next(alloc, text, look)? {
             Some(name) => Ok(Moved::Done(column(Some(qualifier), name))),
             None => Ok(Moved::Bad),
@@ -350,21 +402,29 @@ fn copied(alloc: Global, text: &str) -> Result<Text, AllocError> {
 fn after_function(
     alloc: Global,
     function: Function,
+    qualifier: Text,
     class: Option<Class>,
 ) -> Result<Moved, AllocError> {
     match class {
         Some(Class::Sign(Sign::Open)) => Ok(Moved::More(match function {
-            Function::Uid => Part::One(CLOSE, Goal::Whole(Expr::Uid)),
-            Function::Role => Part::One(CLOSE, Goal::Whole(Expr::Role)),
+            Function::Uid => Part::One(Wanted::Close, Goal::Whole(Expr::Uid)),
+            Function::Role => Part::One(Wanted::Close, Goal::Whole(Expr::Role)),
             Function::Jwt => {
-                Part::Two(CLOSE, Class::Sign(Sign::Arrow), Goal::ClaimName(false))
+                Part::Two(Wanted::Close, Wanted::Arrow, Goal::ClaimName(false))
             }
         })),
         _ => {
-            let qualifier = copied(alloc, "auth")?;
             let name = copied(alloc, function_text(function))?;
             Ok(Moved::Over(column(Some(qualifier), name)))
         }
+    }
+}
+
+fn claimed(selected: bool, claim: Expr) -> Moved {
+    if selected {
+        Moved::More(Part::One(Wanted::Close, Goal::Whole(claim)))
+    } else {
+        Moved::Done(claim)
     }
 }
 
@@ -375,28 +435,24 @@ fn after_arrow(
     look: Option<Look>,
 ) -> Result<Moved, AllocError> {
     match look {
-        Some(look) if look.class == Class::Text => {
-            let claim = Expr::Claim(content(alloc, text, look)?);
-            Ok(if selected {
-                Moved::More(Part::One(CLOSE, Goal::Whole(claim)))
-            } else {
-                Moved::Done(claim)
-            })
-        }
-        _ => Ok(Moved::Bad),
+        Some(look) => match look.class {
+            Class::Text => Ok(claimed(selected, Expr::Claim(content(alloc, text, look)?))),
+            _ => Ok(Moved::Bad),
+        },
+        None => Ok(Moved::Bad),
     }
 }
 
 fn after_select(look: Option<Look>) -> Moved {
     match function_of(word_next(look)) {
-        Some(Function::Uid) => Moved::More(Part::Three(OPEN, CLOSE, CLOSE, Goal::Whole(Expr::Uid))),
+        Some(Function::Uid) => Moved::More(Part::Three(Wanted::Open, Wanted::Close, Wanted::Close, Goal::Whole(Expr::Uid))),
         Some(Function::Role) => {
-            Moved::More(Part::Three(OPEN, CLOSE, CLOSE, Goal::Whole(Expr::Role)))
+            Moved::More(Part::Three(Wanted::Open, Wanted::Close, Wanted::Close, Goal::Whole(Expr::Role)))
         }
         Some(Function::Jwt) => Moved::More(Part::Three(
-            OPEN,
-            CLOSE,
-            Class::Sign(Sign::Arrow),
+            Wanted::Open,
+            Wanted::Close,
+            Wanted::Arrow,
             Goal::ClaimName(true),
         )),
         None => Moved::Bad,
@@ -404,28 +460,28 @@ fn after_select(look: Option<Look>) -> Moved {
 }
 
 fn from(selected: Selected) -> Moved {
-    Moved::More(Part::One(Class::Word(Word::From), Goal::Table(selected)))
+    Moved::More(Part::One(Wanted::From, Goal::Table(selected)))
 }
 
 fn is_one(text: &str, look: Look) -> bool {
-    look.class == Class::Number && look.token.slice(text) == "1"
+    look.token.slice(text) == "1"
 }
 
 fn selects(alloc: Global, text: &str, look: Option<Look>) -> Result<Moved, AllocError> {
     match look {
         None => Ok(Moved::Bad),
-        Some(seen) => {
-            if is_one(text, seen) {
-                Ok(from(Selected::One))
-            } else if seen.class == Class::Sign(Sign::Star) {
-                Ok(from(Selected::All))
+        Some(seen) => match seen.class {
+            Class::Number => Ok(if is_one(text, seen) {
+                from(Selected::One)
             } else {
-                match name_next(alloc, text, look)? {
-                    Some(name) => Ok(at(Goal::SelectsName(name))),
-                    None => Ok(Moved::Bad),
-                }
-            }
-        }
+                Moved::Bad
+            }),
+            Class::Sign(Sign::Star) => Ok(from(Selected::All)),
+            _ => match name_next(alloc, text, look)? {
+                Some(name) => Ok(at(Goal::SelectsName(name))),
+                None => Ok(Moved::Bad),
+            },
+        },
     }
 }
 
@@ -503,7 +559,7 @@ fn after_source(source: Source, class: Option<Class>) -> Moved {
     }
 }
 
-fn source(selected: Selected, schema: Text, table: Text, alias: Option<Text>) -> Source {
+fn read_from(selected: Selected, schema: Text, table: Text, alias: Option<Text>) -> Source {
     Source {
         selected,
         schema,
@@ -520,13 +576,13 @@ fn after_table(
     table: Text,
     look: Option<Look>,
 ) -> Result<Moved, AllocError> {
-    if word_next(look) == Word::As {
-        return Ok(at(Goal::As(selected, schema, table)));
+    match class_in(look) {
+        Some(Class::Word(Word::As)) => Ok(at(Goal::As(selected, schema, table))),
+        class => Ok(match name_next(alloc, text, look)? {
+            Some(alias) => at(Goal::Aliased(read_from(selected, schema, table, Some(alias)))),
+            None => after_source(read_from(selected, schema, table, None), class),
+        }),
     }
-    Ok(match name_next(alloc, text, look)? {
-        Some(alias) => at(Goal::Aliased(source(selected, schema, table, Some(alias)))),
-        None => after_source(source(selected, schema, table, None), class_in(look)),
-    })
 }
 
 fn after_table_name(
@@ -554,7 +610,7 @@ fn after_as(
     look: Option<Look>,
 ) -> Result<Moved, AllocError> {
     match name_next(alloc, text, look)? {
-        Some(alias) => Ok(at(Goal::Aliased(source(
+        Some(alias) => Ok(at(Goal::Aliased(read_from(
             selected,
             schema,
             table,
@@ -563,7 +619,7 @@ fn after_as(
         None => {
             let alias = copied(alloc, "as")?;
             Ok(after_source(
-                source(selected, schema, table, Some(alias)),
+                read_from(selected, schema, table, Some(alias)),
                 class_in(look),
             ))
         }
@@ -583,13 +639,13 @@ fn goal_moved(
         Goal::Constant(l) => Ok(after_constant(l, class)),
         Goal::Minus => after_minus(alloc, text, look),
         Goal::Cast(l) => after_cast(alloc, text, l, look),
-        Goal::TypeWord(l, word, name) => Ok(after_type_word(l, word, name, class)),
+        Goal::TypeWord(l, head, name) => Ok(after_type_word(l, head, name, class)),
         Goal::Varying(l) => Ok(after_varying(l, class)),
         Goal::Length(l, name) => Ok(after_length(l, name, class)),
         Goal::Lengthened(l, name) => Ok(after_numbers(l, name, class)),
-        Goal::Named(word, name) => Ok(after_name(word, name, class)),
-        Goal::Dotted(word, name) => after_dot(alloc, text, word, name, look),
-        Goal::Called(function) => after_function(alloc, function, class),
+        Goal::Named(auth, name) => Ok(after_name(auth, name, class)),
+        Goal::Dotted(auth, name) => after_dot(alloc, text, auth, name, look),
+        Goal::Called(function, name) => after_function(alloc, function, name, class),
         Goal::ClaimName(selected) => after_arrow(alloc, text, selected, look),
         Goal::SelectedFunction => Ok(after_select(look)),
         Goal::Selects => selects(alloc, text, look),
@@ -614,15 +670,25 @@ fn reached(goal: Goal) -> Moved {
     }
 }
 
-fn is_class(class: Option<Class>, wanted: Class) -> bool {
-    match class {
-        Some(class) => class == wanted,
-        None => false,
+/// Whether what has to come is there.
+fn meets(wanted: Wanted, class: Option<Class>) -> bool {
+    match wanted {
+        Wanted::Number => matches!(class, Some(Class::Number)),
+        Wanted::Open => matches!(class, Some(Class::Sign(Sign::Open))),
+        Wanted::Close => matches!(class, Some(Class::Sign(Sign::Close))),
+        Wanted::RightBracket => matches!(class, Some(Class::Sign(Sign::RightBracket))),
+        Wanted::Arrow => matches!(class, Some(Class::Sign(Sign::Arrow))),
+        Wanted::Dot => matches!(class, Some(Class::Sign(Sign::Dot))),
+        Wanted::Auth => matches!(class, Some(Class::Word(Word::Auth))),
+        Wanted::Select => matches!(class, Some(Class::Word(Word::Select))),
+        Wanted::From => matches!(class, Some(Class::Word(Word::From))),
+        Wanted::Time => matches!(class, Some(Class::Word(Word::Time))),
+        Wanted::Zone => matches!(class, Some(Class::Word(Word::Zone))),
     }
 }
 
 /// Where the next token, or the end, leads in an operand.
-pub fn moved(
+pub fn part_moved(
     alloc: Global,
     text: &str,
     part: Part,
@@ -632,21 +698,21 @@ pub fn moved(
     Ok(match part {
         Part::At(goal) => return goal_moved(alloc, text, goal, look),
         Part::One(a, goal) => {
-            if is_class(class, a) {
+            if meets(a, class) {
                 reached(goal)
             } else {
                 Moved::Bad
             }
         }
         Part::Two(a, b, goal) => {
-            if is_class(class, a) {
+            if meets(a, class) {
                 Moved::More(Part::One(b, goal))
             } else {
                 Moved::Bad
             }
         }
         Part::Three(a, b, c, goal) => {
-            if is_class(class, a) {
+            if meets(a, class) {
                 Moved::More(Part::Two(b, c, goal))
             } else {
                 Moved::Bad
@@ -658,15 +724,15 @@ pub fn moved(
 /// Behind `(`, where SELECT comes.
 pub fn selecting() -> Part {
     Part::Two(
-        Class::Word(Word::Auth),
-        Class::Sign(Sign::Dot),
+        Wanted::Auth,
+        Wanted::Dot,
         Goal::SelectedFunction,
     )
 }
 
 /// Behind EXISTS.
 pub fn existing() -> Part {
-    Part::Two(OPEN, Class::Word(Word::Select), Goal::Selects)
+    Part::Two(Wanted::Open, Wanted::Select, Goal::Selects)
 }
 
 /// An EXISTS with a condition.

@@ -2,7 +2,7 @@ use crate::Comparison;
 use rt_sql::{Token, TokenKind};
 
 /// The words that mean something in an expression. Those up to `Where` are no names.
-#[derive(Clone, Copy, Debug, PartialEq, Eq)]
+#[derive(Clone, Copy)]
 pub enum Word {
     And,
     Or,
@@ -35,7 +35,7 @@ pub enum Word {
 }
 
 /// The signs of an expression that compare nothing.
-#[derive(Clone, Copy, Debug, PartialEq, Eq)]
+#[derive(Clone, Copy)]
 pub enum Sign {
     Open,
     Close,
@@ -51,7 +51,7 @@ pub enum Sign {
 }
 
 /// What a token is to an expression, without the name or the content that it keeps.
-#[derive(Clone, Copy, Debug, PartialEq, Eq)]
+#[derive(Clone, Copy)]
 pub enum Class {
     Word(Word),
     Quoted,
