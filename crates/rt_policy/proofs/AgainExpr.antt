@@ -277,15 +277,15 @@ alias_reads (g.alias {name = name} {x = x} {xs = xs} named) q sel schema table i
   where
     go : (class_of x ≡ class.Word word.As) ⊎ (p.after_table sel schema table (Some (class_of x)) x ≡ p.alias_or sel schema table (p.after_source (p.source sel schema table None) (Some (class_of x))) (p.name_next (Some (class_of x)) x))
         → Reads (x ∷ xs) (state st l (mode.Within s (part.At q))) out
-    go (inl as) =
-        leads q x (class.Word word.As) (p.at (goal.As sel schema table)) xs st l s out as (is.by_name (class.Word word.As) x refl)
-        (h (goal.As sel schema table) (subst (λ (n : List ℕ). IsSource (goal.As sel schema table) (p.source sel schema table (Some n))) (as_is name x as named) (as_is_source sel schema table)))
+    go (inl same) =
+        leads q x (class.Word word.As) (p.at (goal.As sel schema table)) xs st l s out same (is.by_name (class.Word word.As) x refl)
+        (h (goal.As sel schema table) (subst (λ (n : List ℕ). IsSource (goal.As sel schema table) (p.source sel schema table (Some n))) (as_is name x same named) (as_is_source sel schema table)))
     go (inr to) =
         leads q x (class_of x) (p.at (goal.Aliased (p.source sel schema table (Some name)))) xs st l s out refl
         (is.by_name (class_of x) x (name_class name x named) ∙ to ∙ alias_goes sel schema table name (p.after_source (p.source sel schema table None) (Some (class_of x))) x named)
         (h (goal.Aliased (p.source sel schema table (Some name))) (aliased_is_source (p.source sel schema table (Some name))))
-alias_reads (g.as_alias {name = name} {x = x} {y = y} {xs = xs} as named) q sel schema table is st l s out h =
-    leads q x (class.Word word.As) (p.at (goal.As sel schema table)) (y ∷ xs) st l s out (keyword_class (codes "as") x as) (is.by_name (class.Word word.As) x refl)
+alias_reads (g.as_alias {name = name} {x = x} {y = y} {xs = xs} word_as named) q sel schema table is st l s out h =
+    leads q x (class.Word word.As) (p.at (goal.As sel schema table)) (y ∷ xs) st l s out (keyword_class (codes "as") x word_as) (is.by_name (class.Word word.As) x refl)
     (leads (goal.As sel schema table) y (class_of y) (p.at (goal.Aliased (p.source sel schema table (Some name)))) xs st l s out refl
     (alias_goes sel schema table name (p.after_source (p.source sel schema table (Some (codes "as"))) (Some (class_of y))) y named)
     (h (goal.Aliased (p.source sel schema table (Some name))) (aliased_is_source (p.source sel schema table (Some name)))))

@@ -1,6 +1,7 @@
 pub mod Grammar
 pub mod Joining
 pub mod Lent
+pub mod Looks
 pub mod Machine
 pub mod Parse
 pub mod Parts

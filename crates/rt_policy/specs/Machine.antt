@@ -53,6 +53,10 @@ given st l slot.First v = state st l (mode.Operand v)
 given st l (slot.Right op a) v = state st l (mode.Related (expr.Compare op a v))
 given st l (slot.Item negated a items) v = state st l (mode.Items negated a (items ++ v ∷ []))
 
+abbrev pub is_close : Option Class → Bool
+is_close (Some (class.Sign sign.Close)) = true
+is_close c = false
+
 abbrev pub close : State → Option Class → To
 close s (Some (class.Sign sign.Close)) = next s
 close s c = stuck

@@ -1,3 +1,12 @@
+ghost use Rattle.std.specs.Prelude.{◌≡◌, ◌++◌, ◌∷◌, [], true, IfOk, MatchOption};
+ghost use Rattle.std.specs.List.{list_any};
+ghost use Rattle.rt_value.specs.Places.{next};
+ghost use Rattle.rt_policy.specs.Grammar as grammar;
+ghost use Rattle.rt_policy.specs.Parts as parts;
+ghost use Rattle.rt_policy.specs.Machine as spec;
+ghost use Rattle.rt_policy.specs.Machine.{Gives};
+ghost use Rattle.rt_policy.specs.Looks.{IsLook, AreLooks, lexeme_in, class_in as class_at};
+
 use crate::part::{Moved, Part, Source, begin, existing, exists_where, part_moved, selecting};
 use crate::stack::{Stack, pushed};
 use crate::words::{Class, Look, Sign, Word};
@@ -74,7 +83,9 @@ impl From<AllocError> for Stop {
     }
 }
 
-fn compared(alloc: Global, op: Comparison, a: Expr, b: Expr) -> Result<Expr, AllocError> {
+fn compared(alloc: Global, op: Comparison, a: Expr, b: Expr) -> Result<Expr, AllocError>
+    ensures { IfOk result (λ r. r ≡ Expr.Compare op a b) }
+{
     let a = Boxed::new(alloc, a)?;
     let b = Boxed::new(alloc, b)?;
     Ok(Expr::Compare(op, a, b))
@@ -85,7 +96,9 @@ fn one_of(
     negated: bool,
     side: Expr,
     items: List<Expr>,
-) -> Result<Expr, AllocError> {
+) -> Result<Expr, AllocError>
+    ensures { IfOk result (λ r. r ≡ Expr.OneOf negated side items) }
+{
     let side = Boxed::new(alloc, side)?;
     Ok(Expr::OneOf {
         negated,
@@ -94,11 +107,15 @@ fn one_of(
     })
 }
 
-fn not(alloc: Global, a: Expr) -> Result<Expr, AllocError> {
+fn not(alloc: Global, a: Expr) -> Result<Expr, AllocError>
+    ensures { IfOk result (λ r. r ≡ Expr.Not a) }
+{
     Ok(Expr::Not(Boxed::new(alloc, a)?))
 }
 
-fn is(alloc: Global, negated: bool, tested: Tested, side: Expr) -> Result<Expr, AllocError> {
+fn is(alloc: Global, negated: bool, tested: Tested, side: Expr) -> Result<Expr, AllocError>
+    ensures { IfOk result (λ r. r ≡ Expr.Is negated tested side) }
+{
     let side = Boxed::new(alloc, side)?;
     Ok(Expr::Is {
         negated,
@@ -107,15 +124,21 @@ fn is(alloc: Global, negated: bool, tested: Tested, side: Expr) -> Result<Expr, 
     })
 }
 
-fn group(alloc: Global, a: Expr) -> Result<Expr, AllocError> {
+fn group(alloc: Global, a: Expr) -> Result<Expr, AllocError>
+    ensures { IfOk result (λ r. r ≡ Expr.Group a) }
+{
     Ok(Expr::Group(Boxed::new(alloc, a)?))
 }
 
-fn empty(alloc: Global) -> List<Expr> {
+fn empty(alloc: Global) -> List<Expr>
+    ensures { result ≡ [] }
+{
     List::new(Vec::new(alloc))
 }
 
-fn fresh(alloc: Global) -> Level {
+fn fresh(alloc: Global) -> Level
+    ensures { result ≡ spec.fresh }
+{
     Level {
         ors: empty(alloc),
         ands: empty(alloc),
@@ -129,7 +152,9 @@ fn given(
     level: Level,
     slot: Slot,
     v: Expr,
-) -> Result<State, Stop> {
+) -> Result<State, Stop>
+    ensures { Gives result (next (spec.given stack level slot v)) }
+{
     let mode = match slot {
         Slot::First => Mode::Operand(v),
         Slot::Right(op, a) => Mode::Related(compared(alloc, op, a, v)?),
@@ -138,7 +163,9 @@ fn given(
     Ok(State { stack, level, mode })
 }
 
-fn is_close(class: Option<Class>) -> bool {
+fn is_close(class: Option<Class>) -> bool
+    ensures { result ≡ spec.is_close class }
+{
     matches!(class, Some(Class::Sign(Sign::Close)))
 }
 
@@ -148,7 +175,9 @@ fn closed(
     stack: Stack<Frame>,
     e: Expr,
     class: Option<Class>,
-) -> Result<State, Stop> {
+) -> Result<State, Stop>
+    ensures { Gives result (spec.closed stack e class) }
+{
     let mut stack = stack;
     match stack.pop() {
         None => Err(Stop::End(e)),
@@ -172,7 +201,9 @@ fn closed(
     }
 }
 
-fn conjunction(parts: List<Expr>) -> Expr {
+fn conjunction(parts: List<Expr>) -> Expr
+    ensures { result ≡ grammar.conjunction parts }
+{
     let mut parts = parts.into_inner();
     if parts.len() == 1 {
         match parts.pop() {
@@ -184,7 +215,9 @@ fn conjunction(parts: List<Expr>) -> Expr {
     }
 }
 
-fn disjunction(parts: List<Expr>) -> Expr {
+fn disjunction(parts: List<Expr>) -> Expr
+    ensures { result ≡ grammar.disjunction parts }
+{
     let mut parts = parts.into_inner();
     if parts.len() == 1 {
         match parts.pop() {
@@ -196,7 +229,9 @@ fn disjunction(parts: List<Expr>) -> Expr {
     }
 }
 
-fn wanting(stack: Stack<Frame>, level: Level, slot: Slot) -> State {
+fn wanting(stack: Stack<Frame>, level: Level, slot: Slot) -> State
+    ensures { result ≡ spec.state stack level (Mode.Want slot) }
+{
     State {
         stack,
         level,
@@ -209,7 +244,9 @@ fn after_conjunction(
     stack: Stack<Frame>,
     ors: List<Expr>,
     class: Option<Class>,
-) -> Result<State, Stop> {
+) -> Result<State, Stop>
+    ensures { Gives result (spec.after_conjunction stack ors class) }
+{
     match class {
         Some(Class::Word(Word::Or)) => {
             let ands = empty(alloc);
@@ -225,7 +262,9 @@ fn after_negation(
     ors: List<Expr>,
     ands: List<Expr>,
     class: Option<Class>,
-) -> Result<State, Stop> {
+) -> Result<State, Stop>
+    ensures { Gives result (spec.after_negation stack ors ands class) }
+{
     match class {
         Some(Class::Word(Word::And)) => Ok(wanting(stack, Level { ors, ands }, Slot::First)),
         _ => {
@@ -243,7 +282,9 @@ struct Standing {
 }
 
 /// The level behind a NOT that waits.
-fn waiting(stack: Stack<Frame>) -> Result<(Stack<Frame>, Option<Level>), AllocError> {
+fn waiting(stack: Stack<Frame>) -> Result<(Stack<Frame>, Option<Level>), AllocError>
+    ensures { IfOk result (λ r. MatchOption r.1 ((r.0 ≡ stack) × spec.Opens stack) (λ l. stack ≡ Frame.Not l ∷ r.0)) }
+{
     let mut stack = stack;
     match stack.pop() {
         None => Ok((stack, None)),
@@ -257,7 +298,9 @@ fn negated(
     stack: Stack<Frame>,
     level: Level,
     tree: Expr,
-) -> Result<Standing, AllocError> {
+) -> Result<Standing, AllocError>
+    ensures { IfOk result (λ n. spec.negated stack level tree ≡ record { stack = n.stack; level = n.level; tree = n.tree }) }
+{
     let mut now = Standing { stack, level, tree };
     loop {
         let Standing { stack, level, tree } = now;
@@ -281,7 +324,9 @@ fn after_test(
     level: Level,
     e: Expr,
     class: Option<Class>,
-) -> Result<State, Stop> {
+) -> Result<State, Stop>
+    ensures { Gives result (spec.after_test stack level e class) }
+{
     let Standing { stack, level, tree } = negated(alloc, stack, level, e)?;
     let Level { ors, ands } = level;
     let ands = pushed(ands, tree)?;
@@ -294,7 +339,9 @@ fn after_related(
     level: Level,
     e: Expr,
     class: Option<Class>,
-) -> Result<State, Stop> {
+) -> Result<State, Stop>
+    ensures { Gives result (spec.after_related stack level e class) }
+{
     match class {
         Some(Class::Word(Word::Is)) => Ok(State {
             stack,
@@ -311,7 +358,9 @@ fn after_operand(
     level: Level,
     a: Expr,
     class: Option<Class>,
-) -> Result<State, Stop> {
+) -> Result<State, Stop>
+    ensures { Gives result (spec.after_operand stack level a class) }
+{
     let mode = match class {
         Some(Class::Compared(op)) => Mode::Want(Slot::Right(op, a)),
         Some(Class::Word(Word::In)) => Mode::In(false, a),
@@ -329,7 +378,9 @@ fn after_item(
     a: Expr,
     items: List<Expr>,
     class: Option<Class>,
-) -> Result<State, Stop> {
+) -> Result<State, Stop>
+    ensures { Gives result (spec.after_item stack level negated a items class) }
+{
     let mode = match class {
         Some(Class::Sign(Sign::Comma)) => Mode::Want(Slot::Item(negated, a, items)),
         Some(Class::Sign(Sign::Close)) => Mode::Related(one_of(alloc, negated, a, items)?),
@@ -346,7 +397,9 @@ fn over(
     slot: Slot,
     v: Expr,
     class: Option<Class>,
-) -> Result<State, Stop> {
+) -> Result<State, Stop>
+    ensures { Gives result (spec.over stack level slot v class) }
+{
     match slot {
         Slot::First => after_operand(alloc, stack, level, v, class),
         Slot::Right(op, a) => {
@@ -360,21 +413,35 @@ fn over(
     }
 }
 
-fn opened(alloc: Global, stack: Stack<Frame>, frame: Frame) -> Result<State, Stop> {
+fn opened(alloc: Global, stack: Stack<Frame>, frame: Frame) -> Result<State, Stop>
+    ensures { Gives result (next (spec.state (frame ∷ stack) spec.fresh (Mode.Want Slot.First))) }
+{
     let stack = stack.push(frame)?;
     Ok(wanting(stack, fresh(alloc), Slot::First))
 }
 
-fn is_where(frame: &Frame) -> bool {
+fn is_where(frame: &Frame) -> bool
+    ensures { result ≡ spec.is_where frame.now }
+{
     matches!(frame, Frame::Where(_, _, _))
 }
 
-/// Whether an EXISTS is open.
-fn inside(stack: &Stack<Frame>) -> bool {
-    stack.items().iter().any(|frame| is_where(frame))
+fn any_where(frames: &[Frame]) -> bool
+    ensures { result ≡ list_any spec.is_where frames.now }
+{
+    frames.iter().any(|frame| is_where(frame))
 }
 
-fn within(stack: Stack<Frame>, level: Level, slot: Slot, part: Part) -> State {
+/// Whether an EXISTS is open.
+fn inside(stack: &Stack<Frame>) -> bool
+    ensures { result ≡ spec.inside stack.now }
+{
+    any_where(stack.items())
+}
+
+fn within(stack: Stack<Frame>, level: Level, slot: Slot, part: Part) -> State
+    ensures { result ≡ spec.state stack level (Mode.Within slot part) }
+{
     State {
         stack,
         level,
@@ -389,7 +456,9 @@ fn condition(
     level: Level,
     slot: Slot,
     source: Source,
-) -> Result<State, Stop> {
+) -> Result<State, Stop>
+    ensures { Gives result (spec.condition stack level slot source) }
+{
     if inside(&stack) {
         Err(Stop::Bad)
     } else {
@@ -400,12 +469,15 @@ fn condition(
 fn within_part(
     alloc: Global,
     text: &str,
-    state: (Stack<Frame>, Level),
+    stack: Stack<Frame>,
+    level: Level,
     slot: Slot,
     part: Part,
     look: Option<Look>,
-) -> Result<State, Stop> {
-    let (stack, level) = state;
+) -> Result<State, Stop>
+    requires { AreLooks text.now look }
+    ensures { Gives result (spec.moved_to stack level slot (parts.part_moved part (class_at look) (lexeme_in text.now look)) (class_at look)) }
+{
     match part_moved(alloc, text, part, look)? {
         Moved::More(part) => Ok(within(stack, level, slot, part)),
         Moved::Done(e) => given(alloc, stack, level, slot, e),
@@ -415,7 +487,9 @@ fn within_part(
     }
 }
 
-fn class_in(look: Option<Look>) -> Option<Class> {
+fn class_in(look: Option<Look>) -> Option<Class>
+    ensures { result ≡ class_at look }
+{
     match look {
         Some(look) => Some(look.class),
         None => None,
@@ -430,7 +504,10 @@ fn want(
     level: Level,
     slot: Slot,
     look: Option<Look>,
-) -> Result<State, Stop> {
+) -> Result<State, Stop>
+    requires { AreLooks text.now look }
+    ensures { Gives result (spec.want stack level slot (class_at look) (lexeme_in text.now look)) }
+{
     let Some(look) = look else {
         return Err(Stop::Bad);
     };
@@ -466,7 +543,10 @@ fn after_open(
     level: Level,
     slot: Slot,
     look: Option<Look>,
-) -> Result<State, Stop> {
+) -> Result<State, Stop>
+    requires { AreLooks text.now look }
+    ensures { Gives result (spec.after_open stack level slot (class_at look) (lexeme_in text.now look)) }
+{
     match class_in(look) {
         Some(Class::Word(Word::Select)) => Ok(within(stack, level, slot, selecting())),
         _ => {
@@ -477,11 +557,15 @@ fn after_open(
 }
 
 /// The first state.
-pub fn start(alloc: Global) -> State {
+pub fn start(alloc: Global) -> State
+    ensures { result ≡ spec.start }
+{
     wanting(Stack::new(alloc), fresh(alloc), Slot::First)
 }
 
-fn tested_of(class: Option<Class>) -> Option<Tested> {
+fn tested_of(class: Option<Class>) -> Option<Tested>
+    ensures { result ≡ spec.tested_of class }
+{
     match class {
         Some(Class::Word(Word::Null)) => Some(Tested::Null),
         Some(Class::Word(Word::True)) => Some(Tested::True),
@@ -497,7 +581,9 @@ fn after_is(
     level: Level,
     a: Expr,
     class: Option<Class>,
-) -> Result<State, Stop> {
+) -> Result<State, Stop>
+    ensures { Gives result (spec.after_is stack level a class) }
+{
     let mode = match class {
         Some(Class::Word(Word::Not)) => Mode::IsNot(a),
         _ => match tested_of(class) {
@@ -514,7 +600,9 @@ fn after_is_not(
     level: Level,
     a: Expr,
     class: Option<Class>,
-) -> Result<State, Stop> {
+) -> Result<State, Stop>
+    ensures { Gives result (spec.tests stack level true a (spec.tested_of class)) }
+{
     match tested_of(class) {
         Some(tested) => {
             let mode = Mode::Tested(is(alloc, true, tested, a)?);
@@ -529,7 +617,9 @@ fn after_not(
     level: Level,
     a: Expr,
     class: Option<Class>,
-) -> Result<State, Stop> {
+) -> Result<State, Stop>
+    ensures { Gives result (spec.after_not stack level a class) }
+{
     match class {
         Some(Class::Word(Word::In)) => Ok(State {
             stack,
@@ -547,7 +637,9 @@ fn after_in(
     negated: bool,
     a: Expr,
     class: Option<Class>,
-) -> Result<State, Stop> {
+) -> Result<State, Stop>
+    ensures { Gives result (spec.after_in stack level negated a class) }
+{
     match class {
         Some(Class::Sign(Sign::Open)) => {
             let slot = Slot::Item(negated, a, empty(alloc));
@@ -558,13 +650,16 @@ fn after_in(
 }
 
 /// Reads one token, or the end.
-pub fn step(alloc: Global, text: &str, state: State, look: Option<Look>) -> Result<State, Stop> {
+pub fn step(alloc: Global, text: &str, state: State, look: Option<Look>) -> Result<State, Stop>
+    requires { AreLooks text.now look }
+    ensures { Gives result (spec.move state.stack state.level state.mode (class_at look) (lexeme_in text.now look)) }
+{
     let class = class_in(look);
     let State { stack, level, mode } = state;
     match mode {
         Mode::Want(slot) => want(alloc, text, stack, level, slot, look),
         Mode::Opened(slot) => after_open(alloc, text, stack, level, slot, look),
-        Mode::Within(slot, part) => within_part(alloc, text, (stack, level), slot, part, look),
+        Mode::Within(slot, part) => within_part(alloc, text, stack, level, slot, part, look),
         Mode::Operand(a) => after_operand(alloc, stack, level, a, class),
         Mode::Related(e) => after_related(alloc, stack, level, e, class),
         Mode::Tested(e) => after_test(alloc, stack, level, e, class),

@@ -1,3 +1,10 @@
+ghost use Rattle.std.specs.Prelude.{◌≡◌, true, IfOk, Some, codes};
+ghost use Rattle.std.specs.Str.{bytes_eq};
+ghost use Rattle.rt_sql.specs.Lexeme.{lexeme_of, kept_name, content as content_of, bytes_of};
+ghost use Rattle.rt_policy.specs.Words as words;
+ghost use Rattle.rt_policy.specs.Parts as spec;
+ghost use Rattle.rt_policy.specs.Looks.{IsLook, AreLooks, lexeme_in, class_in as class_at};
+
 use crate::words::{Class, Look, Sign, Word};
 use crate::{Expr, Literal, Selected, TypeName};
 use rt_value::Text;
@@ -117,7 +124,9 @@ pub enum Moved {
     Bad,
 }
 
-pub fn is_name(class: Class) -> bool {
+pub fn is_name(class: Class) -> bool
+    ensures { result ≡ words.is_name class }
+{
     match class {
         Class::Quoted => true,
         Class::Word(word) => !is_reserved(word),
@@ -125,7 +134,9 @@ pub fn is_name(class: Class) -> bool {
     }
 }
 
-pub fn is_reserved(word: Word) -> bool {
+pub fn is_reserved(word: Word) -> bool
+    ensures { result ≡ words.is_reserved word }
+{
     matches!(
         word,
         Word::And
@@ -144,18 +155,24 @@ pub fn is_reserved(word: Word) -> bool {
 }
 
 /// The word that a name is. Of a quoted name it is `Other`.
-fn word_in(class: Class) -> Word {
+fn word_in(class: Class) -> Word
+    ensures { result ≡ spec.word_in class }
+{
     match class {
         Class::Word(word) => word,
         _ => Word::Other,
     }
 }
 
-fn is_auth(class: Class) -> bool {
+fn is_auth(class: Class) -> bool
+    ensures { result ≡ spec.is_auth class }
+{
     matches!(class, Class::Word(Word::Auth))
 }
 
-fn head_of(word: Word) -> Head {
+fn head_of(word: Word) -> Head
+    ensures { result ≡ spec.head_of word }
+{
     match word {
         Word::Timestamp => Head::Timestamp,
         Word::Double => Head::Double,
@@ -164,32 +181,52 @@ fn head_of(word: Word) -> Head {
     }
 }
 
-fn named(alloc: Global, text: &str, look: Look) -> Result<Text, AllocError> {
+fn named(alloc: Global, text: &str, look: Look) -> Result<Text, AllocError>
+    requires look { IsLook text.now look }
+    requires name { words.is_name look.class ≡ true }
+    ensures { IfOk result (λ r. r ≡ kept_name (lexeme_of text.now look.token)) }
+{
     Ok(Text::new(look.token.name(alloc, text)?))
 }
 
-fn content(alloc: Global, text: &str, look: Look) -> Result<Text, AllocError> {
+fn content(alloc: Global, text: &str, look: Look) -> Result<Text, AllocError>
+    requires look { IsLook text.now look }
+    requires text { look.class ≡ Class.Text }
+    ensures { IfOk result (λ r. r ≡ content_of (lexeme_of text.now look.token)) }
+{
     Ok(Text::new(look.token.content(alloc, text)?))
 }
 
-fn digits(alloc: Global, text: &str, look: Look) -> Result<Text, AllocError> {
+fn digits(alloc: Global, text: &str, look: Look) -> Result<Text, AllocError>
+    requires { IsLook text.now look }
+    ensures { IfOk result (λ r. r ≡ bytes_of text.now look.token) }
+{
     Ok(Text::new(String::from_str(alloc, look.token.slice(text))?))
 }
 
-fn at(goal: Goal) -> Moved {
+fn at(goal: Goal) -> Moved
+    ensures { result ≡ spec.at goal }
+{
     Moved::More(Part::At(goal))
 }
 
-fn column(qualifier: Option<Text>, name: Text) -> Expr {
+fn column(qualifier: Option<Text>, name: Text) -> Expr
+    ensures { result ≡ Expr.Column qualifier name }
+{
     Expr::Column { qualifier, name }
 }
 
-fn cast_to_name(constant: Literal, name: Text, array: bool) -> Expr {
+fn cast_to_name(constant: Literal, name: Text, array: bool) -> Expr
+    ensures { result ≡ spec.cast_to_name constant name array }
+{
     Expr::Cast(constant, TypeName::Named { name, array })
 }
 
 /// Begins an operand that is neither a group nor an EXISTS.
-pub fn begin(alloc: Global, text: &str, look: Look) -> Result<Option<Part>, AllocError> {
+pub fn begin(alloc: Global, text: &str, look: Look) -> Result<Option<Part>, AllocError>
+    requires { IsLook text.now look }
+    ensures { IfOk result (λ r. r ≡ spec.begin look.class (lexeme_of text.now look.token)) }
+{
     let goal = match look.class {
         Class::Text => Goal::Constant(Literal::Text(content(alloc, text, look)?)),
         Class::Number => Goal::Constant(Literal::Number {
@@ -211,14 +248,19 @@ pub fn begin(alloc: Global, text: &str, look: Look) -> Result<Option<Part>, Allo
     Ok(Some(Part::At(goal)))
 }
 
-fn after_constant(constant: Literal, class: Option<Class>) -> Moved {
+fn after_constant(constant: Literal, class: Option<Class>) -> Moved
+    ensures { result ≡ spec.after_constant constant class }
+{
     match class {
         Some(Class::Sign(Sign::Colons)) => at(Goal::Cast(constant)),
         _ => Moved::Over(Expr::Literal(constant)),
     }
 }
 
-fn after_minus(alloc: Global, text: &str, look: Option<Look>) -> Result<Moved, AllocError> {
+fn after_minus(alloc: Global, text: &str, look: Option<Look>) -> Result<Moved, AllocError>
+    requires { AreLooks text.now look }
+    ensures { IfOk result (λ r. r ≡ spec.after_minus (class_at look) (lexeme_in text.now look)) }
+{
     match look {
         Some(look) => match look.class {
             Class::Number => Ok(at(Goal::Constant(Literal::Number {
@@ -232,7 +274,10 @@ fn after_minus(alloc: Global, text: &str, look: Option<Look>) -> Result<Moved, A
 }
 
 /// The name that comes.
-fn name_next(alloc: Global, text: &str, look: Option<Look>) -> Result<Option<Text>, AllocError> {
+fn name_next(alloc: Global, text: &str, look: Option<Look>) -> Result<Option<Text>, AllocError>
+    requires { AreLooks text.now look }
+    ensures { IfOk result (λ r. r ≡ spec.name_next (class_at look) (lexeme_in text.now look)) }
+{
     match look {
         Some(look) => {
             if is_name(look.class) {
@@ -245,14 +290,18 @@ fn name_next(alloc: Global, text: &str, look: Option<Look>) -> Result<Option<Tex
     }
 }
 
-fn word_next(look: Option<Look>) -> Word {
+fn word_next(look: Option<Look>) -> Word
+    ensures { result ≡ spec.word_next (class_at look) }
+{
     match look {
         Some(look) => word_in(look.class),
         None => Word::Other,
     }
 }
 
-fn class_in(look: Option<Look>) -> Option<Class> {
+fn class_in(look: Option<Look>) -> Option<Class>
+    ensures { result ≡ class_at look }
+{
     match look {
         Some(look) => Some(look.class),
         None => None,
@@ -264,14 +313,19 @@ fn after_cast(
     text: &str,
     constant: Literal,
     look: Option<Look>,
-) -> Result<Moved, AllocError> {
+) -> Result<Moved, AllocError>
+    requires { AreLooks text.now look }
+    ensures { IfOk result (λ r. r ≡ spec.after_cast constant (class_at look) (lexeme_in text.now look)) }
+{
     match name_next(alloc, text, look)? {
         Some(name) => Ok(at(Goal::TypeWord(constant, head_of(word_next(look)), name))),
         None => Ok(Moved::Bad),
     }
 }
 
-fn after_name_of_type(constant: Literal, name: Text, class: Option<Class>) -> Moved {
+fn after_name_of_type(constant: Literal, name: Text, class: Option<Class>) -> Moved
+    ensures { result ≡ spec.after_name_of_type constant name class }
+{
     match class {
         Some(Class::Sign(Sign::Open)) => {
             Moved::More(Part::One(Wanted::Number, Goal::Length(constant, name)))
@@ -280,7 +334,9 @@ fn after_name_of_type(constant: Literal, name: Text, class: Option<Class>) -> Mo
     }
 }
 
-fn after_numbers(constant: Literal, name: Text, class: Option<Class>) -> Moved {
+fn after_numbers(constant: Literal, name: Text, class: Option<Class>) -> Moved
+    ensures { result ≡ spec.after_numbers constant name class }
+{
     match class {
         Some(Class::Sign(Sign::LeftBracket)) => Moved::More(Part::One(
             Wanted::RightBracket,
@@ -290,7 +346,9 @@ fn after_numbers(constant: Literal, name: Text, class: Option<Class>) -> Moved {
     }
 }
 
-fn zoned(constant: Literal, name: TypeName) -> Moved {
+fn zoned(constant: Literal, name: TypeName) -> Moved
+    ensures { result ≡ spec.zoned constant name }
+{
     Moved::More(Part::Two(
         Wanted::Time,
         Wanted::Zone,
@@ -298,7 +356,9 @@ fn zoned(constant: Literal, name: TypeName) -> Moved {
     ))
 }
 
-fn after_timestamp(constant: Literal, name: Text, class: Option<Class>) -> Moved {
+fn after_timestamp(constant: Literal, name: Text, class: Option<Class>) -> Moved
+    ensures { result ≡ spec.after_timestamp constant name class }
+{
     match class {
         Some(Class::Word(Word::With)) => zoned(constant, TypeName::TimestampWithTimeZone),
         Some(Class::Word(Word::Without)) => zoned(constant, TypeName::TimestampWithoutTimeZone),
@@ -306,7 +366,9 @@ fn after_timestamp(constant: Literal, name: Text, class: Option<Class>) -> Moved
     }
 }
 
-fn after_double(constant: Literal, name: Text, class: Option<Class>) -> Moved {
+fn after_double(constant: Literal, name: Text, class: Option<Class>) -> Moved
+    ensures { result ≡ spec.after_double constant name class }
+{
     match class {
         Some(Class::Word(Word::Precision)) => {
             Moved::Done(Expr::Cast(constant, TypeName::DoublePrecision))
@@ -315,14 +377,18 @@ fn after_double(constant: Literal, name: Text, class: Option<Class>) -> Moved {
     }
 }
 
-fn after_character(constant: Literal, name: Text, class: Option<Class>) -> Moved {
+fn after_character(constant: Literal, name: Text, class: Option<Class>) -> Moved
+    ensures { result ≡ spec.after_character constant name class }
+{
     match class {
         Some(Class::Word(Word::Varying)) => at(Goal::Varying(constant)),
         _ => after_name_of_type(constant, name, class),
     }
 }
 
-fn after_type_word(constant: Literal, head: Head, name: Text, class: Option<Class>) -> Moved {
+fn after_type_word(constant: Literal, head: Head, name: Text, class: Option<Class>) -> Moved
+    ensures { result ≡ spec.after_type_word constant head name class }
+{
     match head {
         Head::Timestamp => after_timestamp(constant, name, class),
         Head::Double => after_double(constant, name, class),
@@ -331,7 +397,9 @@ fn after_type_word(constant: Literal, head: Head, name: Text, class: Option<Clas
     }
 }
 
-fn after_varying(constant: Literal, class: Option<Class>) -> Moved {
+fn after_varying(constant: Literal, class: Option<Class>) -> Moved
+    ensures { result ≡ spec.after_varying constant class }
+{
     let whole = Expr::Cast(constant, TypeName::CharacterVarying);
     match class {
         Some(Class::Sign(Sign::Open)) => {
@@ -341,7 +409,9 @@ fn after_varying(constant: Literal, class: Option<Class>) -> Moved {
     }
 }
 
-fn after_length(constant: Literal, name: Text, class: Option<Class>) -> Moved {
+fn after_length(constant: Literal, name: Text, class: Option<Class>) -> Moved
+    ensures { result ≡ spec.after_length constant name class }
+{
     let goal = Goal::Lengthened(constant, name);
     match class {
         Some(Class::Sign(Sign::Comma)) => Moved::More(Part::Two(Wanted::Number, Wanted::Close, goal)),
@@ -350,14 +420,18 @@ fn after_length(constant: Literal, name: Text, class: Option<Class>) -> Moved {
     }
 }
 
-fn after_name(auth: bool, name: Text, class: Option<Class>) -> Moved {
+fn after_name(auth: bool, name: Text, class: Option<Class>) -> Moved
+    ensures { result ≡ spec.after_name auth name class }
+{
     match class {
         Some(Class::Sign(Sign::Dot)) => at(Goal::Dotted(auth, name)),
         _ => Moved::Over(column(None, name)),
     }
 }
 
-fn function_of(word: Word) -> Option<Function> {
+fn function_of(word: Word) -> Option<Function>
+    ensures { result ≡ spec.function_of word }
+{
     match word {
         Word::Uid => Some(Function::Uid),
         Word::Role => Some(Function::Role),
@@ -367,7 +441,9 @@ fn function_of(word: Word) -> Option<Function> {
 }
 
 /// The function of `auth` that a word names behind a qualifier.
-fn called(auth: bool, word: Word) -> Option<Function> {
+fn called(auth: bool, word: Word) -> Option<Function>
+    ensures { result ≡ spec.called auth word }
+{
     if auth { function_of(word) } else { None }
 }
 
@@ -377,7 +453,10 @@ fn after_dot(
     auth: bool,
     qualifier: Text,
     look: Option<Look>,
-) -> Result<Moved, AllocError> {
+) -> Result<Moved, AllocError>
+    requires { AreLooks text.now look }
+    ensures { IfOk result (λ r. r ≡ spec.after_dot auth qualifier (class_at look) (lexeme_in text.now look)) }
+{
     match called(auth, word_next(look)) {
         Some(function) => Ok(at(Goal::Called(function, qualifier))),
         None => match name_next(alloc, text, look)? {
@@ -387,7 +466,9 @@ fn after_dot(
     }
 }
 
-fn function_text(function: Function) -> &'static str {
+fn function_text(function: Function) -> &'static str
+    ensures { result.now ≡ spec.function_text function }
+{
     match function {
         Function::Uid => "uid",
         Function::Role => "role",
@@ -395,7 +476,9 @@ fn function_text(function: Function) -> &'static str {
     }
 }
 
-fn copied(alloc: Global, text: &str) -> Result<Text, AllocError> {
+fn copied(alloc: Global, text: &str) -> Result<Text, AllocError>
+    ensures { IfOk result (λ r. r ≡ text.now) }
+{
     Ok(Text::new(String::from_str(alloc, text)?))
 }
 
@@ -404,7 +487,9 @@ fn after_function(
     function: Function,
     qualifier: Text,
     class: Option<Class>,
-) -> Result<Moved, AllocError> {
+) -> Result<Moved, AllocError>
+    ensures { IfOk result (λ r. r ≡ spec.after_function function qualifier class) }
+{
     match class {
         Some(Class::Sign(Sign::Open)) => Ok(Moved::More(match function {
             Function::Uid => Part::One(Wanted::Close, Goal::Whole(Expr::Uid)),
@@ -420,7 +505,9 @@ fn after_function(
     }
 }
 
-fn claimed(selected: bool, claim: Expr) -> Moved {
+fn claimed(selected: bool, claim: Expr) -> Moved
+    ensures { result ≡ spec.claimed selected claim }
+{
     if selected {
         Moved::More(Part::One(Wanted::Close, Goal::Whole(claim)))
     } else {
@@ -433,7 +520,10 @@ fn after_arrow(
     text: &str,
     selected: bool,
     look: Option<Look>,
-) -> Result<Moved, AllocError> {
+) -> Result<Moved, AllocError>
+    requires { AreLooks text.now look }
+    ensures { IfOk result (λ r. r ≡ spec.after_arrow selected (class_at look) (lexeme_in text.now look)) }
+{
     match look {
         Some(look) => match look.class {
             Class::Text => Ok(claimed(selected, Expr::Claim(content(alloc, text, look)?))),
@@ -443,7 +533,9 @@ fn after_arrow(
     }
 }
 
-fn after_select(look: Option<Look>) -> Moved {
+fn after_select(look: Option<Look>) -> Moved
+    ensures { result ≡ spec.after_select (class_at look) }
+{
     match function_of(word_next(look)) {
         Some(Function::Uid) => Moved::More(Part::Three(Wanted::Open, Wanted::Close, Wanted::Close, Goal::Whole(Expr::Uid))),
         Some(Function::Role) => {
@@ -459,15 +551,23 @@ fn after_select(look: Option<Look>) -> Moved {
     }
 }
 
-fn from(selected: Selected) -> Moved {
+fn from(selected: Selected) -> Moved
+    ensures { result ≡ spec.from selected }
+{
     Moved::More(Part::One(Wanted::From, Goal::Table(selected)))
 }
 
-fn is_one(text: &str, look: Look) -> bool {
+fn is_one(text: &str, look: Look) -> bool
+    requires { IsLook text.now look }
+    ensures { result ≡ bytes_eq (bytes_of text.now look.token) (codes "1") }
+{
     look.token.slice(text) == "1"
 }
 
-fn selects(alloc: Global, text: &str, look: Option<Look>) -> Result<Moved, AllocError> {
+fn selects(alloc: Global, text: &str, look: Option<Look>) -> Result<Moved, AllocError>
+    requires { AreLooks text.now look }
+    ensures { IfOk result (λ r. r ≡ spec.selects (class_at look) (lexeme_in text.now look)) }
+{
     match look {
         None => Ok(Moved::Bad),
         Some(seen) => match seen.class {
@@ -485,7 +585,9 @@ fn selects(alloc: Global, text: &str, look: Option<Look>) -> Result<Moved, Alloc
     }
 }
 
-fn after_selected_name(name: Text, class: Option<Class>) -> Moved {
+fn after_selected_name(name: Text, class: Option<Class>) -> Moved
+    ensures { result ≡ spec.after_selected_name name class }
+{
     match class {
         Some(Class::Sign(Sign::Dot)) => at(Goal::SelectsDotted(name)),
         Some(Class::Word(Word::From)) => at(Goal::Table(Selected::Column {
@@ -501,7 +603,10 @@ fn after_selected_dot(
     text: &str,
     qualifier: Text,
     look: Option<Look>,
-) -> Result<Moved, AllocError> {
+) -> Result<Moved, AllocError>
+    requires { AreLooks text.now look }
+    ensures { IfOk result (λ r. r ≡ spec.after_selected_dot qualifier (class_at look) (lexeme_in text.now look)) }
+{
     match name_next(alloc, text, look)? {
         Some(name) => Ok(from(Selected::Column {
             qualifier: Some(qualifier),
@@ -516,7 +621,10 @@ fn after_from(
     text: &str,
     selected: Selected,
     look: Option<Look>,
-) -> Result<Moved, AllocError> {
+) -> Result<Moved, AllocError>
+    requires { AreLooks text.now look }
+    ensures { IfOk result (λ r. r ≡ spec.after_from selected (class_at look) (lexeme_in text.now look)) }
+{
     match name_next(alloc, text, look)? {
         Some(name) => Ok(at(Goal::TableNamed(selected, name))),
         None => Ok(Moved::Bad),
@@ -529,7 +637,10 @@ fn after_schema_dot(
     selected: Selected,
     schema: Text,
     look: Option<Look>,
-) -> Result<Moved, AllocError> {
+) -> Result<Moved, AllocError>
+    requires { AreLooks text.now look }
+    ensures { IfOk result (λ r. r ≡ spec.after_schema_dot selected schema (class_at look) (lexeme_in text.now look)) }
+{
     match name_next(alloc, text, look)? {
         Some(table) => Ok(at(Goal::Alias(selected, schema, table))),
         None => Ok(Moved::Bad),
@@ -537,7 +648,9 @@ fn after_schema_dot(
 }
 
 /// Behind a table and its alias.
-fn after_source(source: Source, class: Option<Class>) -> Moved {
+fn after_source(source: Source, class: Option<Class>) -> Moved
+    ensures { result ≡ spec.after_source source class }
+{
     match class {
         Some(Class::Word(Word::Where)) => Moved::Condition(source),
         Some(Class::Sign(Sign::Close)) => {
@@ -559,7 +672,9 @@ fn after_source(source: Source, class: Option<Class>) -> Moved {
     }
 }
 
-fn read_from(selected: Selected, schema: Text, table: Text, alias: Option<Text>) -> Source {
+fn read_from(selected: Selected, schema: Text, table: Text, alias: Option<Text>) -> Source
+    ensures { result ≡ spec.source selected schema table alias }
+{
     Source {
         selected,
         schema,
@@ -575,7 +690,10 @@ fn after_table(
     schema: Text,
     table: Text,
     look: Option<Look>,
-) -> Result<Moved, AllocError> {
+) -> Result<Moved, AllocError>
+    requires { AreLooks text.now look }
+    ensures { IfOk result (λ r. r ≡ spec.after_table selected schema table (class_at look) (lexeme_in text.now look)) }
+{
     match class_in(look) {
         Some(Class::Word(Word::As)) => Ok(at(Goal::As(selected, schema, table))),
         class => Ok(match name_next(alloc, text, look)? {
@@ -591,7 +709,10 @@ fn after_table_name(
     selected: Selected,
     name: Text,
     look: Option<Look>,
-) -> Result<Moved, AllocError> {
+) -> Result<Moved, AllocError>
+    requires { AreLooks text.now look }
+    ensures { IfOk result (λ r. r ≡ spec.after_table_name selected name (class_at look) (lexeme_in text.now look)) }
+{
     match class_in(look) {
         Some(Class::Sign(Sign::Dot)) => Ok(at(Goal::TableDotted(selected, name))),
         _ => {
@@ -608,7 +729,10 @@ fn after_as(
     schema: Text,
     table: Text,
     look: Option<Look>,
-) -> Result<Moved, AllocError> {
+) -> Result<Moved, AllocError>
+    requires { AreLooks text.now look }
+    ensures { IfOk result (λ r. r ≡ spec.after_as selected schema table (class_at look) (lexeme_in text.now look)) }
+{
     match name_next(alloc, text, look)? {
         Some(alias) => Ok(at(Goal::Aliased(read_from(
             selected,
@@ -632,7 +756,10 @@ fn goal_moved(
     text: &str,
     goal: Goal,
     look: Option<Look>,
-) -> Result<Moved, AllocError> {
+) -> Result<Moved, AllocError>
+    requires { AreLooks text.now look }
+    ensures { IfOk result (λ r. r ≡ spec.goal_moved goal (class_at look) (lexeme_in text.now look)) }
+{
     let class = class_in(look);
     match goal {
         Goal::Whole(e) => Ok(Moved::Over(e)),
@@ -663,7 +790,9 @@ fn goal_moved(
 }
 
 /// A goal behind the last class that had to come before it.
-fn reached(goal: Goal) -> Moved {
+fn reached(goal: Goal) -> Moved
+    ensures { result ≡ spec.reached goal }
+{
     match goal {
         Goal::Whole(e) => Moved::Done(e),
         goal => at(goal),
@@ -671,7 +800,9 @@ fn reached(goal: Goal) -> Moved {
 }
 
 /// Whether what has to come is there.
-fn meets(wanted: Wanted, class: Option<Class>) -> bool {
+fn meets(wanted: Wanted, class: Option<Class>) -> bool
+    ensures { result ≡ spec.meets wanted class }
+{
     match wanted {
         Wanted::Number => matches!(class, Some(Class::Number)),
         Wanted::Open => matches!(class, Some(Class::Sign(Sign::Open))),
@@ -693,7 +824,10 @@ pub fn part_moved(
     text: &str,
     part: Part,
     look: Option<Look>,
-) -> Result<Moved, AllocError> {
+) -> Result<Moved, AllocError>
+    requires { AreLooks text.now look }
+    ensures { IfOk result (λ r. r ≡ spec.part_moved part (class_at look) (lexeme_in text.now look)) }
+{
     let class = class_in(look);
     Ok(match part {
         Part::At(goal) => return goal_moved(alloc, text, goal, look),
@@ -722,7 +856,9 @@ pub fn part_moved(
 }
 
 /// Behind `(`, where SELECT comes.
-pub fn selecting() -> Part {
+pub fn selecting() -> Part
+    ensures { result ≡ spec.selecting }
+{
     Part::Two(
         Wanted::Auth,
         Wanted::Dot,
@@ -731,12 +867,16 @@ pub fn selecting() -> Part {
 }
 
 /// Behind EXISTS.
-pub fn existing() -> Part {
+pub fn existing() -> Part
+    ensures { result ≡ spec.existing }
+{
     Part::Two(Wanted::Open, Wanted::Select, Goal::Selects)
 }
 
 /// An EXISTS with a condition.
-pub fn exists_where(alloc: Global, source: Source, condition: Expr) -> Result<Expr, AllocError> {
+pub fn exists_where(alloc: Global, source: Source, condition: Expr) -> Result<Expr, AllocError>
+    ensures { IfOk result (λ r. r ≡ spec.exists_of source (Some condition)) }
+{
     let Source {
         selected,
         schema,

@@ -1,3 +1,8 @@
+ghost use Rattle.std.specs.Prelude.{◌≡◌};
+ghost use Rattle.std.specs.Str.{str_to_ascii_lowercase};
+ghost use Rattle.rt_sql.specs.Lexeme.{IsTokenOf, lexeme_of};
+ghost use Rattle.rt_policy.specs.Words as spec;
+
 use crate::Comparison;
 use rt_sql::{Token, TokenKind};
 
@@ -68,7 +73,9 @@ pub struct Look {
     pub class: Class,
 }
 
-fn word_text(word: Word) -> &'static str {
+fn word_text(word: Word) -> &'static str
+    ensures { result.now ≡ spec.word_text word }
+{
     match word {
         Word::And => "and",
         Word::Or => "or",
@@ -132,7 +139,9 @@ const WORDS: [Word; 27] = [
 ];
 
 /// The word that a text is, in whatever case.
-fn word_of(text: &str) -> Word {
+fn word_of(text: &str) -> Word
+    ensures { result ≡ spec.word_of (str_to_ascii_lowercase text.now) }
+{
     for word in &WORDS {
         if text.eq_ignore_ascii_case(word_text(*word)) {
             return *word;
@@ -141,7 +150,9 @@ fn word_of(text: &str) -> Word {
     Word::Other
 }
 
-fn sign_of(text: &str) -> Class {
+fn sign_of(text: &str) -> Class
+    ensures { result ≡ spec.sign_of text.now }
+{
     match text {
         "(" => Class::Sign(Sign::Open),
         ")" => Class::Sign(Sign::Close),
@@ -165,7 +176,10 @@ fn sign_of(text: &str) -> Class {
 }
 
 /// What a token is to an expression.
-pub fn class_of(text: &str, token: Token) -> Class {
+pub fn class_of(text: &str, token: Token) -> Class
+    requires { IsTokenOf text.now token }
+    ensures { result ≡ spec.class_of (lexeme_of text.now token) }
+{
     match token.kind {
         TokenKind::Word => Class::Word(word_of(token.slice(text))),
         TokenKind::Quoted => Class::Quoted,

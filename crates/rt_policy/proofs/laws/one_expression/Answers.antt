@@ -1,9 +1,5 @@
-use Rattle.rt_policy.proofs.Classes.{means}
-use Rattle.rt_policy.proofs.Same.{step_same}
-use Rattle.rt_policy.proofs.Found.{step_found, begun}
-use Rattle.rt_policy.proofs.Some.{some_rest}
-use Rattle.rt_policy.proofs.AgainExpr.{written_reads}
+use Rattle.rt_policy.proofs.One.{one_expression}
 use Rattle.rt_policy.proofs.laws.one_expression.Goals as goal
 
 pub returns : goal.returns
-returns c = ?
+returns c = one_expression
