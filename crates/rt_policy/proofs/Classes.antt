@@ -1,5 +1,5 @@
 -- What a token's class says of the token, and the other way round.
-use Rattle.std.proofs.Common.{◌≡◌, ℕ, Bool, true, false, cond, not, ◌||◌, ◌&&◌, ◌⊎◌, inl, inr, List, [], ◌∷◌, ◌++◌, codes, Option, Some, None, unwrap_or, find, refl, ap, subst, sym, ◌∙◌}
+use Rattle.std.proofs.Common.{◌≡◌, ℕ, Bool, true, false, cond, not, ◌||◌, ◌&&◌, ◌⊎◌, ◌↔◌, IsTrue, inl, inr, List, [], ◌∷◌, ◌++◌, codes, Option, Some, None, unwrap_or, find, refl, ap, subst, sym, ◌∙◌}
 use Rattle.std.specs.List.{list_all, list_any}
 use Rattle.std.specs.Str.{bytes_eq, str_to_ascii_lowercase}
 use Rattle.std.proofs.lemmas.Bool.{and_parts, or_cases}
@@ -243,3 +243,16 @@ name_class name x ((inr k, kept), other) = ap is_name (kind_class kind.Quoted x 
 
 pub keyword_name : (text : List ℕ) (x : Lexeme) → list_any (bytes_eq text) reserved ≡ false → IsKeyword text x → IsNameWithin text x
 keyword_name text x none (k, lower) = ((inl k, kept_word x k ∙ lower), inr none)
+
+-- the words are in lower case
+pub lower_word : (w : Word) → str_to_ascii_lowercase (word_text w) ≡ word_text w
+lower_word word.And = refl
+lower_word _ = refl
+
+pub same_test : (b : Bool) (p q : List ℕ) → (IsTrue b ↔ (p ≡ q)) → b ≡ bytes_eq p q
+same_test true p q h = sym ((bytes_eq-Decides p q).1 (h.0 tt))
+same_test false p q h = go (bytes_eq p q) refl
+  where
+    go : (c : Bool) → bytes_eq p q ≡ c → false ≡ c
+    go true is = absurd (h.1 ((bytes_eq-Decides p q).0 is))
+    go false is = refl

@@ -1,5 +1,5 @@
 -- What reading an expression from a token on answers. Its place is counted in tokens.
-use Rattle.std.specs.Prelude.{◌≡◌, ℕ, ◌+◌, ◌-◌, ◌≤◌, true, false, List, drop, Result, Ok, Err}
+use Rattle.std.specs.Prelude.{◌≡◌, ℕ, ◌+◌, ◌-◌, ◌≤◌, ◌⊎◌, true, false, List, drop, Result, Ok, Err}
 use Rattle.rt_sql.specs.Lexeme.{Lexeme}
 use Rattle.rt_policy.specs.declared.expr.Expr.{Expr}
 use Rattle.rt_policy.specs.declared.fault.ExprFault.{ExprFault}
@@ -26,3 +26,7 @@ Parses xs from (Err (TooDeep to long)) = (e : Expr) × Reads xs from e to × (is
 Parses xs from (Err NoMemory) = Unit {0}
 Parses xs from (Err UnknownName) = ⊥
 Parses xs from (Err BadType) = ⊥
+
+-- the tokens from one place on are an expression, or fail
+abbrev pub HasAnswer : List Lexeme → ℕ → Type 0
+HasAnswer xs from = ((e : Expr) × (to : ℕ) × Reads xs from e to) ⊎ ((at : ℕ) × Fails xs from at)

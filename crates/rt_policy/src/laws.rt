@@ -11,6 +11,7 @@ ghost use Rattle.rt_policy.specs.Visibility.{visibility, IsVisibility};
 ghost use Rattle.rt_sql.specs.Lexeme.{Lexeme};
 ghost use Rattle.rt_policy.specs.declared.expr.Expr.{Expr};
 ghost use Rattle.rt_policy.specs.Grammar.{Written};
+ghost use Rattle.rt_policy.specs.Parse.{Reads, Fails, HasAnswer};
 
 use crate::Rules;
 
@@ -37,4 +38,12 @@ pub fn visible_by_policies(rules: &Rules)
 /// Tokens are one expression at most.
 pub fn one_expression()
     ensures { (xs : List Lexeme) (a b : Expr) → Written a xs → Written b xs → a ≡ b }
+{}
+
+/// The tokens from a place on are one expression with one end, or fail at one place, and never both.
+pub fn one_answer()
+    ensures one { (xs : List Lexeme) (from : ℕ) (e f : Expr) (m n : ℕ) → Reads xs from e m → Reads xs from f n → (e ≡ f) × (m ≡ n) }
+    ensures fault { (xs : List Lexeme) (from m n : ℕ) → Fails xs from m → Fails xs from n → m ≡ n }
+    ensures either { (xs : List Lexeme) (from : ℕ) (e : Expr) (m n : ℕ) → Reads xs from e m → Fails xs from n → ⊥ }
+    ensures some { (xs : List Lexeme) (from : ℕ) → HasAnswer xs from }
 {}

@@ -818,6 +818,20 @@ fn meets(wanted: Wanted, class: Option<Class>) -> bool
     }
 }
 
+fn discard(_: Moved) {}
+
+/// Where a token leads that has to come, where it is there.
+fn if_met(met: bool, on: Moved) -> Moved
+    ensures { result ≡ spec.if_met met on }
+{
+    if met {
+        on
+    } else {
+        discard(on);
+        Moved::Bad
+    }
+}
+
 /// Where the next token, or the end, leads in an operand.
 pub fn part_moved(
     alloc: Global,
@@ -829,30 +843,14 @@ pub fn part_moved(
     ensures { IfOk result (λ r. r ≡ spec.part_moved part (class_at look) (lexeme_in text.now look)) }
 {
     let class = class_in(look);
-    Ok(match part {
-        Part::At(goal) => return goal_moved(alloc, text, goal, look),
-        Part::One(a, goal) => {
-            if meets(a, class) {
-                reached(goal)
-            } else {
-                Moved::Bad
-            }
-        }
-        Part::Two(a, b, goal) => {
-            if meets(a, class) {
-                Moved::More(Part::One(b, goal))
-            } else {
-                Moved::Bad
-            }
-        }
+    match part {
+        Part::At(goal) => goal_moved(alloc, text, goal, look),
+        Part::One(a, goal) => Ok(if_met(meets(a, class), reached(goal))),
+        Part::Two(a, b, goal) => Ok(if_met(meets(a, class), Moved::More(Part::One(b, goal)))),
         Part::Three(a, b, c, goal) => {
-            if meets(a, class) {
-                Moved::More(Part::Two(b, c, goal))
-            } else {
-                Moved::Bad
-            }
+            Ok(if_met(meets(a, class), Moved::More(Part::Two(b, c, goal))))
         }
-    })
+    }
 }
 
 /// Behind `(`, where SELECT comes.

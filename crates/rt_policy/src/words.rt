@@ -1,5 +1,5 @@
 ghost use Rattle.std.specs.Prelude.{◌≡◌};
-ghost use Rattle.std.specs.Str.{str_to_ascii_lowercase};
+ghost use Rattle.std.specs.Str.{bytes_eq, str_to_ascii_lowercase};
 ghost use Rattle.rt_sql.specs.Lexeme.{IsTokenOf, lexeme_of};
 ghost use Rattle.rt_policy.specs.Words as spec;
 
@@ -138,12 +138,18 @@ const WORDS: [Word; 27] = [
     Word::Varying,
 ];
 
+fn is_word(text: &str, word: Word) -> bool
+    ensures { result ≡ bytes_eq (str_to_ascii_lowercase text.now) (spec.word_text word) }
+{
+    text.eq_ignore_ascii_case(word_text(word))
+}
+
 /// The word that a text is, in whatever case.
 fn word_of(text: &str) -> Word
     ensures { result ≡ spec.word_of (str_to_ascii_lowercase text.now) }
 {
     for word in &WORDS {
-        if text.eq_ignore_ascii_case(word_text(*word)) {
+        if is_word(text, *word) {
             return *word;
         }
     }
