@@ -250,9 +250,9 @@ lower_word word.And = refl
 lower_word _ = refl
 
 pub same_test : (b : Bool) (p q : List ℕ) → (IsTrue b ↔ (p ≡ q)) → b ≡ bytes_eq p q
-same_test true p q h = sym ((bytes_eq-Decides p q).1 (h.0 tt))
+same_test true p q h = sym ((bytes_eq-Decides p q).1 (h.0 refl))
 same_test false p q h = go (bytes_eq p q) refl
   where
     go : (c : Bool) → bytes_eq p q ≡ c → false ≡ c
-    go true is = absurd (h.1 ((bytes_eq-Decides p q).0 is))
+    go true is = h.1 ((bytes_eq-Decides p q).0 is)
     go false is = refl

@@ -3,6 +3,7 @@ pub mod Joining
 pub mod Lent
 pub mod Looks
 pub mod Machine
+pub mod Outlines
 pub mod Parse
 pub mod Parts
 pub mod Ranks

@@ -1,6 +1,7 @@
 ghost use Rattle.std.specs.Prelude.{◌≡◌, ◌++◌, ◌∷◌, [], true, IfOk, MatchOption};
 ghost use Rattle.std.specs.List.{list_any};
 ghost use Rattle.rt_value.specs.Places.{next};
+ghost use Rattle.rt_sql.specs.Lexeme.{lexeme_of};
 ghost use Rattle.rt_policy.specs.Grammar as grammar;
 ghost use Rattle.rt_policy.specs.Parts as parts;
 ghost use Rattle.rt_policy.specs.Machine as spec;
@@ -496,6 +497,39 @@ fn class_in(look: Option<Look>) -> Option<Class>
     }
 }
 
+/// An operand's first part, if there is one.
+fn begun(
+    stack: Stack<Frame>,
+    level: Level,
+    slot: Slot,
+    part: Option<Part>,
+) -> Result<State, Stop>
+    ensures { Gives result (spec.begun stack level slot part) }
+{
+    match part {
+        Some(part) => Ok(within(stack, level, slot, part)),
+        None => Err(Stop::Bad),
+    }
+}
+
+/// The first token of an operand that is neither a group nor an EXISTS.
+fn want_leaf(
+    alloc: Global,
+    text: &str,
+    stack: Stack<Frame>,
+    level: Level,
+    slot: Slot,
+    look: Look,
+) -> Result<State, Stop>
+    requires { IsLook text.now look }
+    ensures { Gives result (spec.begun stack level slot (parts.begin look.class (lexeme_of text.now look.token))) }
+{
+    match begin(alloc, text, look) {
+        Ok(part) => begun(stack, level, slot, part),
+        Err(_) => Err(Stop::NoMemory),
+    }
+}
+
 /// An operand's first token.
 fn want(
     alloc: Global,
@@ -528,10 +562,7 @@ fn want(
                 Ok(within(stack, level, slot, existing()))
             }
         }
-        _ => match begin(alloc, text, look)? {
-            Some(part) => Ok(within(stack, level, slot, part)),
-            None => Err(Stop::Bad),
-        },
+        _ => want_leaf(alloc, text, stack, level, slot, look),
     }
 }
 
