@@ -1,7 +1,7 @@
 //! Times the reading of an expression, which stands on standard input.
 //!
-//! Prints its bytes, its tokens, what it is, and the least nanoseconds of several rounds, or of one behind the argument
-//! `once`.
+//! Prints its bytes, its tokens, what it is, and the least nanoseconds of so many rounds as the argument says. Without one
+//! it prints nothing.
 #![tactic(auto)]
 
 use rt_policy::{ExprFault, parse};
@@ -10,8 +10,6 @@ use std::alloc::Global;
 use std::rt::{Clock, Env};
 use std::time::Instant;
 use std::{env, io};
-
-const ROUNDS: u64 = 5;
 
 /// What a text is read as.
 #[derive(Clone, Copy)]
@@ -31,14 +29,23 @@ fn outcome(alloc: Global, text: &str, tokens: &[Token]) -> io::Result<Outcome> {
 }
 
 fn main(rt: HostRuntime) -> io::Result<()> {
-    let once = env::args(&rt)?.skip(1).any(|arg| arg.as_str() == "once");
+    let mut rounds = 0;
+    for arg in env::args(&rt)?.skip(1) {
+        let Ok(wanted) = arg.as_str().parse::<u64>() else {
+            return Err(io::ErrorKind::InvalidInput.into());
+        };
+        rounds = wanted;
+    }
+    if rounds == 0 {
+        return Ok(());
+    }
     let text = io::read_to_string(rt.alloc(), rt.reader())?;
     let Ok(tokens) = tokens(rt.alloc(), text.as_str()) else {
         return Err(io::ErrorKind::InvalidData.into());
     };
     let mut least = u128::MAX;
     let mut last = Outcome::Bad(0);
-    for _ in 0..if once { 1 } else { ROUNDS } {
+    for _ in 0..rounds {
         let start = Instant::now(&rt)?;
         last = outcome(rt.alloc(), text.as_str(), tokens.as_slice())?;
         least = least.min(start.elapsed(&rt)?.as_nanos());

@@ -46,7 +46,6 @@ use Rattle.rt_policy.specs.declared.building.Frame.TheVariants as frame
 use Rattle.rt_policy.specs.declared.building.Mode.{Mode}
 use Rattle.rt_policy.specs.declared.building.Mode.TheVariants as mode
 use Rattle.rt_policy.specs.declared.building.State.{State}
-
 use Rattle.rt_policy.proofs.Again.{Reads, goes, leads, follow, conjunction_closed, negation_closed, opens_test, operand_related, tested_reads, over_reads, constant_over, name_over, called_over, by_name_goes, type_reads, literal_reads}
 use Rattle.rt_policy.specs.declared.words.Word.{Word}
 use Rattle.rt_policy.specs.Machine.{start}

@@ -39,9 +39,10 @@ same_distance from m n a b e = omega arith
 
 pub one_end : (xs : List Lexeme) (from : ℕ) (e f : Expr) (m n : ℕ) → Reads xs from e m → Reads xs from f n → (e ≡ f) × (m ≡ n)
 one_end xs from e f m n x y =
-    let same = one_place (drop from xs) (m - from) (n - from) x.ends.stuck y.ends.stuck in
-    (one_expression (take (m - from) (drop from xs)) e f x.ends.written (subst (λ (k : ℕ). Written f (take k (drop from xs))) (sym same) y.ends.written),
-    same_distance from m n x.forward y.forward same)
+    let same = one_place (drop from xs) (m - from) (n - from) x.ends.stuck y.ends.stuck in (
+      one_expression (take (m - from) (drop from xs)) e f x.ends.written (subst (λ (k : ℕ). Written f (take k (drop from xs))) (sym same) y.ends.written),
+      same_distance from m n x.forward y.forward same,
+    )
 
 pub one_fault : (xs : List Lexeme) (from m n : ℕ) → Fails xs from m → Fails xs from n → m ≡ n
 one_fault xs from m n x y = same_distance from m n x.forward y.forward (one_place (drop from xs) (m - from) (n - from) x.breaks.stuck y.breaks.stuck)

@@ -153,7 +153,7 @@ is_found st l r zs out (x, us, at, is, inr (n, ws, at_n, not, (asked, (y, vs, at
   expr.Is true asked r,
   vs,
   subst (λ (qs : List Lexeme). TestedBy r (expr.Is true asked r) qs vs)
-  (sym (at ∙ ap (λ (qs : List Lexeme). x ∷ qs) (at_n ∙ ap (λ (qs : List Lexeme). n ∷ qs) at_y))) (g.is_not is not word),
+      (sym (at ∙ ap (λ (qs : List Lexeme). x ∷ qs) (at_n ∙ ap (λ (qs : List Lexeme). n ∷ qs) at_y))) (g.is_not is not word),
   k,
 )
 
@@ -187,7 +187,7 @@ not_in_found st l a zs out (n, ts, at_n, not, (x, us, at, is, (left, vs, at_left
   expr.OneOf true a all,
   ws,
   subst (λ (qs : List Lexeme). Related (inside st) a (expr.OneOf true a all) qs ws)
-  (sym (at_n ∙ ap (λ (qs : List Lexeme). n ∷ qs) (at ∙ ap (λ (qs : List Lexeme). x ∷ qs) at_left))) (g.not_among not is leaves first items),
+      (sym (at_n ∙ ap (λ (qs : List Lexeme). n ∷ qs) (at ∙ ap (λ (qs : List Lexeme). x ∷ qs) at_left))) (g.not_among not is leaves first items),
   more,
 )
 
@@ -388,8 +388,8 @@ begun_operand i c x e zs ys is h = name_operand i c x e zs ys is h
 exists_operand : (x : Lexeme) (e : Expr) (zs ys : List Lexeme) → IsKeyword (codes "exists") x → PartTail p.existing e zs ys → IsOperand false e (x ∷ zs) ys
 exists_operand x e zs ys is (left, us, at, leaves, (select, vs, at_s, is_s, (s, ws, selects, (from, ts, at_f, is_f, (schema, table, rs, named, (name, qs, alias, (k, right, inner, close, made))))))) =
     let all : IsOperand false (expr.Exists s schema table name k) (x ∷ left ∷ select ∷ vs) ys =
-        g.exists is (means (class.Sign sign.Open) left leaves) (means (class.Word word.Select) select is_s)
-        (subst (λ (ps : List Lexeme). IsSelected s vs ps) at_f selects) is_f named alias inner close in
+    g.exists is (means (class.Sign sign.Open) left leaves) (means (class.Word word.Select) select is_s)
+    (subst (λ (ps : List Lexeme). IsSelected s vs ps) at_f selects) is_f named alias inner close in
     subst (λ (w : Expr). IsOperand false w (x ∷ zs) ys) (sym made)
     (subst (λ (ps : List Lexeme). IsOperand false (expr.Exists s schema table name k) (x ∷ ps) ys) (sym (at ∙ ap (λ (ps : List Lexeme). left ∷ ps) at_s)) all)
 

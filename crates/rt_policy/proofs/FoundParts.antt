@@ -74,9 +74,11 @@ zoned_found : (with : List ℕ) (w : Word) (l : Literal) (t : TypeName) (x : Lex
     → Step (p.zoned l t) x e zs ys → Keywords (with ∷ codes "time" ∷ codes "zone" ∷ []) (x ∷ zs) ys × (e ≡ expr.Cast l t)
 zoned_found with w l t x e zs ys first (a, us, at_a, is_a, (b, vs, at_b, is_b, (made, same))) =
     let all : Keywords (with ∷ codes "time" ∷ codes "zone" ∷ []) (x ∷ a ∷ b ∷ vs) vs =
-        g.keyword first (g.keyword (means (class.Word word.Time) a is_a) (g.keyword (means (class.Word word.Zone) b is_b) g.no_keyword)) in
-    (subst (λ (qs : List Lexeme). Keywords (with ∷ codes "time" ∷ codes "zone" ∷ []) (x ∷ qs) ys) (sym (at_a ∙ ap (λ (qs : List Lexeme). a ∷ qs) at_b))
-    (subst (λ (qs : List Lexeme). Keywords (with ∷ codes "time" ∷ codes "zone" ∷ []) (x ∷ a ∷ b ∷ vs) qs) same all), made)
+    g.keyword first (g.keyword (means (class.Word word.Time) a is_a) (g.keyword (means (class.Word word.Zone) b is_b) g.no_keyword)) in (
+      subst (λ (qs : List Lexeme). Keywords (with ∷ codes "time" ∷ codes "zone" ∷ []) (x ∷ qs) ys) (sym (at_a ∙ ap (λ (qs : List Lexeme). a ∷ qs) at_b))
+          (subst (λ (qs : List Lexeme). Keywords (with ∷ codes "time" ∷ codes "zone" ∷ []) (x ∷ a ∷ b ∷ vs) qs) same all),
+      made,
+    )
 
 numbers_found : (l : Literal) (name : List ℕ) (c : Class) (x : Lexeme) (e : Expr) (zs ys : List Lexeme) → class_of x ≡ c
     → Step (p.after_numbers l name (Some c)) x e zs ys → BracketsTail l name e (x ∷ zs) ys
@@ -196,9 +198,12 @@ cast_found : (l : Literal) (c : Class) (x : Lexeme) (e : Expr) (zs ys : List Lex
 cast_found l c x e zs ys is h = go (is_name c) refl h
   where
     go : (b : Bool) → is_name c ≡ b → Step (p.by_name (λ name. p.at (goal.TypeWord l (p.head_of (p.word_in c)) name)) (p.name_if b x)) x e zs ys → CastTail l e (x ∷ zs) ys
-    go true named (t, more, made) =
-        (t, typed (p.head_of (p.word_in c)) (kept_name x) x t zs ys (name_of c x is named)
-        (λ q. head_keyword c x head.Timestamp is q (λ o. absurd cc)) (λ q. head_keyword c x head.Double is q (λ o. absurd cc)) (λ q. head_keyword c x head.Character is q (λ o. absurd cc)) more, made)
+    go true named (t, more, made) = (
+      t,
+      typed (p.head_of (p.word_in c)) (kept_name x) x t zs ys (name_of c x is named)
+          (λ q. head_keyword c x head.Timestamp is q (λ o. absurd cc)) (λ q. head_keyword c x head.Double is q (λ o. absurd cc)) (λ q. head_keyword c x head.Character is q (λ o. absurd cc)) more,
+      made,
+    )
     go false unnamed h = absurd h
 
 length_found : (l : Literal) (name : List ℕ) (c : Class) (x : Lexeme) (e : Expr) (zs ys : List Lexeme) → class_of x ≡ c

@@ -108,8 +108,19 @@ goal_ends (goal.ClaimName true) =
 goal_ends (goal.ClaimName false) = (expr.Claim [], λ ys. (a_text ∷ ys, ([], (a_text, ys, refl, (refl, refl), (refl, refl)))))
 goal_ends goal.SelectedFunction = (
   expr.Uid,
-  λ ys. (a_word (codes "uid") ∷ left ∷ close ∷ close ∷ ys, (function.Uid, (a_word (codes "uid"), left ∷ close ∷ close ∷ ys, refl, (refl, refl),
-  (left, close ∷ close ∷ ys, refl, (refl, refl), (close, close ∷ ys, refl, (refl, refl), (close, ys, refl, (refl, refl), (refl, refl))))))),
+  λ ys. (
+    a_word (codes "uid") ∷ left ∷ close ∷ close ∷ ys,
+    (
+      function.Uid,
+      (
+        a_word (codes "uid"),
+        left ∷ close ∷ close ∷ ys,
+        refl,
+        (refl, refl),
+        (left, close ∷ close ∷ ys, refl, (refl, refl), (close, close ∷ ys, refl, (refl, refl), (close, ys, refl, (refl, refl), (refl, refl)))),
+      ),
+    ),
+  ),
 )
 goal_ends goal.Selects = let k = from_ends selected.One in (k.0, λ ys. (a_number ∷ (k.1 ys).0, (selected.One, (k.1 ys).0, g.the_one (refl, refl), (k.1 ys).1)))
 goal_ends (goal.SelectsName name) = let k = from_ends (selected.Column None name) in (k.0, λ ys. ((k.1 ys).0, inl (k.1 ys).1))
@@ -156,9 +167,13 @@ part_ends (part.Two a b k) =
     let m = goal_ends k in
     (m.0, λ ys. (met_by a ∷ met_by b ∷ (m.1 ys).0, (met_by a, met_by b ∷ (m.1 ys).0, refl, is_met a, (met_by b, (m.1 ys).0, refl, is_met b, (m.1 ys).1))))
 part_ends (part.Three a b c k) =
-    let m = goal_ends k in
-    (m.0, λ ys. (met_by a ∷ met_by b ∷ met_by c ∷ (m.1 ys).0,
-    (met_by a, met_by b ∷ met_by c ∷ (m.1 ys).0, refl, is_met a, (met_by b, met_by c ∷ (m.1 ys).0, refl, is_met b, (met_by c, (m.1 ys).0, refl, is_met c, (m.1 ys).1)))))
+    let m = goal_ends k in (
+      m.0,
+      λ ys. (
+        met_by a ∷ met_by b ∷ met_by c ∷ (m.1 ys).0,
+        (met_by a, met_by b ∷ met_by c ∷ (m.1 ys).0, refl, is_met a, (met_by b, met_by c ∷ (m.1 ys).0, refl, is_met b, (met_by c, (m.1 ys).0, refl, is_met c, (m.1 ys).1))),
+      ),
+    )
 
 abbrev Ends : (List Lexeme → Expr → Type 0) → Type 0
 Ends P = (zs : List Lexeme) × (out : Expr) × P zs out
@@ -210,9 +225,16 @@ operand_ends K some i s q = let m = part_ends q in let k = given_ends K some i s
 
 opened_ends : (K : Behind) → ((e : Expr) → Ends (K e)) → (i : Bool) (s : Slot) → Ends (RestIn K i (mode.Opened s))
 opened_ends K some i s =
-    let k = given_ends K some i s (expr.Group null_tree) in
-    (null ∷ close ∷ k.0, k.1, (expr.Group null_tree, k.0,
-    inr (null_tree, close, g.ors (g.ands (g.plain (null_operand i (close ∷ k.0)) g.alone g.no_test) g.and_end) g.or_end, (refl, refl), refl), k.2))
+    let k = given_ends K some i s (expr.Group null_tree) in (
+      null ∷ close ∷ k.0,
+      k.1,
+      (
+        expr.Group null_tree,
+        k.0,
+        inr (null_tree, close, g.ors (g.ands (g.plain (null_operand i (close ∷ k.0)) g.alone g.no_test) g.and_end) g.or_end, (refl, refl), refl),
+        k.2,
+      ),
+    )
 
 listed_ends : (K : Behind) → ((e : Expr) → Ends (K e)) → (i n : Bool) (a : Expr) → Ends (Listed K i n a)
 listed_ends K some i n a = let k = want_ends K some i (slot.Item n a []) in (left ∷ k.0, k.1, (left, k.0, refl, (refl, refl), k.2))

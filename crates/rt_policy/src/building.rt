@@ -92,12 +92,7 @@ fn compared(alloc: Global, op: Comparison, a: Expr, b: Expr) -> Result<Expr, All
     Ok(Expr::Compare(op, a, b))
 }
 
-fn one_of(
-    alloc: Global,
-    negated: bool,
-    side: Expr,
-    items: List<Expr>,
-) -> Result<Expr, AllocError>
+fn one_of(alloc: Global, negated: bool, side: Expr, items: List<Expr>) -> Result<Expr, AllocError>
     ensures { IfOk result (λ r. r ≡ Expr.OneOf negated side items) }
 {
     let side = Boxed::new(alloc, side)?;
@@ -171,12 +166,7 @@ fn is_close(class: Option<Class>) -> bool
 }
 
 /// An expression is read.
-fn closed(
-    alloc: Global,
-    stack: Stack<Frame>,
-    e: Expr,
-    class: Option<Class>,
-) -> Result<State, Stop>
+fn closed(alloc: Global, stack: Stack<Frame>, e: Expr, class: Option<Class>) -> Result<State, Stop>
     ensures { Gives result (spec.closed stack e class) }
 {
     let mut stack = stack;
@@ -498,12 +488,7 @@ fn class_in(look: Option<Look>) -> Option<Class>
 }
 
 /// An operand's first part, if there is one.
-fn begun(
-    stack: Stack<Frame>,
-    level: Level,
-    slot: Slot,
-    part: Option<Part>,
-) -> Result<State, Stop>
+fn begun(stack: Stack<Frame>, level: Level, slot: Slot, part: Option<Part>) -> Result<State, Stop>
     ensures { Gives result (spec.begun stack level slot part) }
 {
     match part {

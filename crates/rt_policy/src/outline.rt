@@ -1,7 +1,7 @@
+use crate::Expr;
 use crate::part::{Moved, Part, begin, existing, part_moved, selecting};
 use crate::stack::Stack;
 use crate::words::{Class, Look, Sign, Word};
-use crate::Expr;
 use std::alloc::{AllocError, Global};
 
 /// What the next operand is for, without what stands before it.

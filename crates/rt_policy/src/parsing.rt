@@ -1,8 +1,7 @@
-use crate::building;
 use crate::outline::{self, Halt, Outline};
 use crate::part::is_name;
 use crate::words::{Look, class_of};
-use crate::{Expr, ExprFault};
+use crate::{Expr, ExprFault, building};
 use rt_sql::Token;
 use std::alloc::{AllocError, Global};
 

@@ -414,7 +414,11 @@ fn after_length(constant: Literal, name: Text, class: Option<Class>) -> Moved
 {
     let goal = Goal::Lengthened(constant, name);
     match class {
-        Some(Class::Sign(Sign::Comma)) => Moved::More(Part::Two(Wanted::Number, Wanted::Close, goal)),
+        Some(Class::Sign(Sign::Comma)) => Moved::More(Part::Two(
+            Wanted::Number,
+            Wanted::Close,
+            goal,
+        )),
         Some(Class::Sign(Sign::Close)) => at(goal),
         _ => Moved::Bad,
     }
@@ -494,9 +498,7 @@ fn after_function(
         Some(Class::Sign(Sign::Open)) => Ok(Moved::More(match function {
             Function::Uid => Part::One(Wanted::Close, Goal::Whole(Expr::Uid)),
             Function::Role => Part::One(Wanted::Close, Goal::Whole(Expr::Role)),
-            Function::Jwt => {
-                Part::Two(Wanted::Close, Wanted::Arrow, Goal::ClaimName(false))
-            }
+            Function::Jwt => { Part::Two(Wanted::Close, Wanted::Arrow, Goal::ClaimName(false)) }
         })),
         _ => {
             let name = copied(alloc, function_text(function))?;
@@ -537,9 +539,19 @@ fn after_select(look: Option<Look>) -> Moved
     ensures { result ≡ spec.after_select (class_at look) }
 {
     match function_of(word_next(look)) {
-        Some(Function::Uid) => Moved::More(Part::Three(Wanted::Open, Wanted::Close, Wanted::Close, Goal::Whole(Expr::Uid))),
+        Some(Function::Uid) => Moved::More(Part::Three(
+            Wanted::Open,
+            Wanted::Close,
+            Wanted::Close,
+            Goal::Whole(Expr::Uid),
+        )),
         Some(Function::Role) => {
-            Moved::More(Part::Three(Wanted::Open, Wanted::Close, Wanted::Close, Goal::Whole(Expr::Role)))
+            Moved::More(Part::Three(
+                Wanted::Open,
+                Wanted::Close,
+                Wanted::Close,
+                Goal::Whole(Expr::Role),
+            ))
         }
         Some(Function::Jwt) => Moved::More(Part::Three(
             Wanted::Open,
@@ -734,12 +746,7 @@ fn after_as(
     ensures { IfOk result (λ r. r ≡ spec.after_as selected schema table (class_at look) (lexeme_in text.now look)) }
 {
     match name_next(alloc, text, look)? {
-        Some(alias) => Ok(at(Goal::Aliased(read_from(
-            selected,
-            schema,
-            table,
-            Some(alias),
-        )))),
+        Some(alias) => Ok(at(Goal::Aliased(read_from(selected, schema, table, Some(alias))))),
         None => {
             let alias = copied(alloc, "as")?;
             Ok(after_source(
@@ -857,11 +864,7 @@ pub fn part_moved(
 pub fn selecting() -> Part
     ensures { result ≡ spec.selecting }
 {
-    Part::Two(
-        Wanted::Auth,
-        Wanted::Dot,
-        Goal::SelectedFunction,
-    )
+    Part::Two(Wanted::Auth, Wanted::Dot, Goal::SelectedFunction)
 }
 
 /// Behind EXISTS.
