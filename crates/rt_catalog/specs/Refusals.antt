@@ -14,7 +14,7 @@ use Rattle.rt_policy.specs.declared.fault.ExprFault.{ExprFault}
 use Rattle.rt_policy.specs.declared.fault.ExprFault.TheVariants as fault
 use Rattle.rt_policy.specs.Resolution.{resolved}
 use Rattle.rt_policy.specs.Readings.{TableReading}
-use Rattle.rt_policy.specs.Sizes.{names_in, names_of_type, is_shallow, depth_limit}
+use Rattle.rt_policy.specs.Sizes.{names_in, names_of_type, is_shallow, depth_limit, name_limit, is_long}
 use Rattle.rt_catalog.specs.declared.fault.Why.{Why}
 use Rattle.rt_catalog.specs.declared.fault.Why.TheVariants as why
 use Rattle.rt_catalog.specs.declared.statement.TableName.{TableName}
@@ -50,9 +50,6 @@ policy_limit = 1024
 abbrev pub membership_limit : ℕ
 membership_limit = 4096
 
-abbrev pub name_limit : ℕ
-name_limit = 63
-
 -- the first that holds
 abbrev pub first_why : List (Bool × Why) → Option Why
 first_why [] = None
@@ -60,9 +57,6 @@ first_why (c ∷ more) = elim c.0 [ true ↦ Some c.1 | false ↦ first_why more
 
 abbrev pub over : ℕ → ℕ → Bool × Why
 over n limit = (nat_lt limit n, why.Limit limit)
-
-abbrev pub is_long : List ℕ → Bool
-is_long name = nat_lt name_limit (length name)
 
 abbrev pub long_names : List (List ℕ) → Bool × Why
 long_names names = (list_any is_long names, why.Limit name_limit)

@@ -2,7 +2,9 @@ pub mod Grammar
 pub mod InnerTable
 pub mod Joining
 pub mod Lent
+pub mod Machine
 pub mod Parse
+pub mod Parts
 pub mod Ranks
 pub mod Readings
 pub mod Resolution
@@ -10,4 +12,5 @@ pub mod Sizes
 pub mod Truth
 pub mod Types
 pub mod Visibility
+pub mod Words
 pub mod Worth

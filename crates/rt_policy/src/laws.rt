@@ -12,6 +12,9 @@ ghost use Rattle.rt_policy.specs.Worth.{Who, View, Place, IsWorth, worth};
 ghost use Rattle.rt_policy.specs.Visibility.{visibility, IsVisibility};
 ghost use Rattle.rt_policy.specs.Resolution.{Reading, IsMeaning, meaning_in, resolved};
 ghost use Rattle.rt_policy.specs.Readings.{Named, IsNaming, named_in, readings_of, tables_of};
+ghost use Rattle.rt_sql.specs.Lexeme.{Lexeme};
+ghost use Rattle.rt_policy.specs.Grammar as grammar;
+ghost use Rattle.rt_policy.specs.Parse.{Reads, Fails, HasAnswer};
 
 use crate::{Expr, Rules, Scope};
 
@@ -55,4 +58,22 @@ pub fn naming_by_forms(scope: &Scope)
 pub fn tables_are_read(scope: &Scope, expr: &Expr)
     ensures { (judge : Judge) → resolved scope.now expr.now ≡ Ok judge →
         tables_of judge ≡ map (λ r. r.table) (readings_of scope.now expr.now) }
+{}
+
+/// Tokens are one expression at most.
+pub fn one_expression()
+    ensures { (xs : List Lexeme) (a b : Written) →
+        grammar.Written a xs → grammar.Written b xs → a ≡ b }
+{}
+
+/// The tokens from a place on are one expression with one end, or fail at one place, and never
+/// both.
+pub fn one_answer()
+    ensures one { (xs : List Lexeme) (from : ℕ) (e f : Written) (m n : ℕ) →
+        Reads xs from e m → Reads xs from f n → (e ≡ f) × (m ≡ n) }
+    ensures fault { (xs : List Lexeme) (from m n : ℕ) →
+        Fails xs from m → Fails xs from n → m ≡ n }
+    ensures either { (xs : List Lexeme) (from : ℕ) (e : Written) (m n : ℕ) →
+        Reads xs from e m → Fails xs from n → ⊥ }
+    ensures some { (xs : List Lexeme) (from : ℕ) → HasAnswer xs from }
 {}
