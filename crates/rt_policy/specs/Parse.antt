@@ -6,7 +6,7 @@ use Rattle.rt_policy.specs.declared.fault.ExprFault.{ExprFault}
 use Rattle.rt_policy.specs.declared.fault.ExprFault.TheVariants.{NoMemory, BadExpr, TooDeep, UnknownName, BadType}
 use Rattle.rt_policy.specs.Grammar.{Written}
 use Rattle.rt_value.specs.Places.{Ends, Breaks}
-use Rattle.rt_policy.specs.Sizes.{is_shallow}
+use Rattle.rt_policy.specs.Sizes.{is_shallow, has_long_name}
 
 -- the tokens from one place on are the expression, which ends before the token of another, the first that can't go on
 pub record Reads (xs : List Lexeme) (from : ℕ) (e : Expr) (to : ℕ) : Type 0 where
@@ -22,7 +22,7 @@ pub record Fails (xs : List Lexeme) (from at : ℕ) : Type 0 where
 abbrev pub Parses : List Lexeme → ℕ → Result (Expr × ℕ) ExprFault → Type 0
 Parses xs from (Ok found) = Reads xs from found.0 found.1 × (is_shallow found.0 ≡ true)
 Parses xs from (Err (BadExpr at)) = Fails xs from at
-Parses xs from (Err (TooDeep to)) = (e : Expr) × Reads xs from e to × (is_shallow e ≡ false)
+Parses xs from (Err (TooDeep to long)) = (e : Expr) × Reads xs from e to × (is_shallow e ≡ false) × (has_long_name e ≡ long)
 Parses xs from (Err NoMemory) = Unit {0}
 Parses xs from (Err UnknownName) = ⊥
 Parses xs from (Err BadType) = ⊥

@@ -1,6 +1,6 @@
 -- How deep an expression is, and the names in it.
-use Rattle.std.specs.Prelude.{ℕ, ◌+◌, max, nat_le, Bool, List, [], ◌∷◌, ◌++◌, Option, Some, None}
-use Rattle.std.specs.List.{flat_map}
+use Rattle.std.specs.Prelude.{ℕ, ◌+◌, max, nat_le, nat_lt, Bool, List, [], ◌∷◌, ◌++◌, length, Option, Some, None}
+use Rattle.std.specs.List.{flat_map, list_any}
 use Rattle.rt_policy.specs.declared.expr.TypeName.{TypeName}
 use Rattle.rt_policy.specs.declared.expr.TypeName.TheVariants.{Named}
 use Rattle.rt_policy.specs.declared.expr.Selected.{Selected}
@@ -81,3 +81,13 @@ names_step (Expr-F.Exists selected schema table alias condition) =
 -- every name in an expression: of columns, qualifiers, tables, schemas, aliases and types
 abbrev pub names_in : Expr → List (List ℕ)
 names_in = fold-Expr (List (List ℕ)) names_step
+
+-- the greatest length of a name, in bytes
+abbrev pub name_limit : ℕ
+name_limit = 63
+
+abbrev pub is_long : List ℕ → Bool
+is_long name = nat_lt name_limit (length name)
+
+abbrev pub has_long_name : Expr → Bool
+has_long_name e = list_any is_long (names_in e)

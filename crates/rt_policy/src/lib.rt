@@ -2,6 +2,7 @@
 //! show (PostgreSQL, "Row Security Policies").
 #![tactic(auto)]
 
+mod building;
 mod caller;
 mod claims;
 mod evaluation;
@@ -15,19 +16,25 @@ mod lent;
 mod logic;
 mod lookup;
 mod meaning;
+mod outline;
+mod parsing;
+mod part;
 mod parts;
 mod ranking;
 mod resolution;
 mod rules;
 mod scope;
+mod stack;
 mod tables;
 mod types;
+mod words;
 
 pub use caller::{Caller, Seen};
 pub use evaluation::{holds, sees};
 pub use expr::{Expr, Literal, Selected, TypeName};
 pub use fault::ExprFault;
 pub use judge::{Comparison, Judge, Tested, Truth};
+pub use parsing::parse;
 pub use resolution::resolve;
 pub use rules::Rules;
 pub use scope::{ColumnView, Scope, TableView};
