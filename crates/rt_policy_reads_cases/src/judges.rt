@@ -2,21 +2,20 @@
 //! parts.
 use rt_policy::{Comparison, Judge, Tested};
 use rt_value::Value;
-use std::alloc::AllocError;
-use std::fmt::Write;
+use std::alloc::{AllocError, Global};
 
-fn push_value(answer: &mut String, value: &Value) -> Result<(), AllocError> {
+fn value_text(alloc: Global, value: &Value) -> Result<String, AllocError> {
     match value {
-        Value::Null => answer.push_str("null"),
-        Value::Int(n) => write!(answer, "{n}"),
+        Value::Null => String::from_str(alloc, "null"),
+        Value::Int(n) => format!(in alloc; "{n}"),
         Value::Text(text) => {
             let text = text.get();
-            write!(answer, "'{text}'")
+            format!(in alloc; "'{text}'")
         }
-        Value::Bool(b) => write!(answer, "{b}"),
-        Value::Uuid(n) => write!(answer, "#{n}"),
-        Value::Moment(n) => write!(answer, "@{n}"),
-        Value::Opaque => answer.push_str("opaque"),
+        Value::Bool(b) => format!(in alloc; "{b}"),
+        Value::Uuid(n) => format!(in alloc; "#{n}"),
+        Value::Moment(n) => format!(in alloc; "@{n}"),
+        Value::Opaque => String::from_str(alloc, "opaque"),
     }
 }
 
@@ -40,80 +39,62 @@ fn head_of(tested: Tested) -> &'static str {
     }
 }
 
-fn push_number(answer: &mut String, head: &str, n: u32) -> Result<(), AllocError> {
-    write!(answer, "({head} {n})")
-}
-
-/// Adds a blank and a judge for each.
+/// The judges, each behind a blank.
 #[cycle(judge)]
-fn push_parts(answer: &mut String, parts: &[Judge]) -> Result<(), AllocError> {
+fn parts_text(alloc: Global, parts: &[Judge]) -> Result<String, AllocError> {
+    let mut text = String::new(alloc);
     for part in parts {
-        answer.push_str(" ")?;
-        push_judge(answer, part)?;
+        let part = judge_text(alloc, part)?;
+        text.push_str(" ")?;
+        text.push_str(part.as_str())?;
     }
-    answer.push_str(")")
+    Ok(text)
 }
 
+/// The judge as it is written.
 #[cycle(judge)]
-fn push_pair(
-    answer: &mut String,
-    head: &str,
-    first: &Judge,
-    rest: &[Judge],
-) -> Result<(), AllocError> {
-    answer.push_str("(")?;
-    answer.push_str(head)?;
-    answer.push_str(" ")?;
-    push_judge(answer, first)?;
-    push_parts(answer, rest)
-}
-
-#[cycle(judge)]
-fn push_one(answer: &mut String, head: &str, part: &Judge) -> Result<(), AllocError> {
-    answer.push_str("(")?;
-    answer.push_str(head)?;
-    answer.push_str(" ")?;
-    push_judge(answer, part)?;
-    answer.push_str(")")
-}
-
-/// Adds a judge.
-#[cycle(judge)]
-pub fn push_judge(answer: &mut String, judge: &Judge) -> Result<(), AllocError> {
+pub fn judge_text(alloc: Global, judge: &Judge) -> Result<String, AllocError> {
     match judge {
-        Judge::Literal(value) => push_value(answer, value),
-        Judge::Outer(column) => push_number(answer, "outer", *column),
-        Judge::Inner(column) => push_number(answer, "inner", *column),
-        Judge::Uid => answer.push_str("uid"),
-        Judge::Role => answer.push_str("role"),
+        Judge::Literal(value) => value_text(alloc, value),
+        Judge::Outer(column) => format!(in alloc; "(outer {column})"),
+        Judge::Inner(column) => format!(in alloc; "(inner {column})"),
+        Judge::Uid => String::from_str(alloc, "uid"),
+        Judge::Role => String::from_str(alloc, "role"),
         Judge::Claim(name) => {
             let name = name.get();
-            write!(answer, "(claim '{name}')")
+            format!(in alloc; "(claim '{name}')")
         }
         Judge::Compare(comparison, a, b) => {
-            answer.push_str("(")?;
-            answer.push_str(sign_of(*comparison))?;
-            answer.push_str(" ")?;
-            push_judge(answer, a.get())?;
-            answer.push_str(" ")?;
-            push_judge(answer, b.get())?;
-            answer.push_str(")")
+            let a = judge_text(alloc, a.get())?;
+            let b = judge_text(alloc, b.get())?;
+            let sign = sign_of(*comparison);
+            format!(in alloc; "({sign} {a} {b})")
         }
-        Judge::OneOf(side, items) => push_pair(answer, "in", side.get(), items.get()),
-        Judge::Not(a) => push_one(answer, "not", a.get()),
+        Judge::OneOf(side, items) => {
+            let items = parts_text(alloc, items.get())?;
+            let side = judge_text(alloc, side.get())?;
+            format!(in alloc; "(in {side}{items})")
+        }
+        Judge::Not(a) => {
+            let a = judge_text(alloc, a.get())?;
+            format!(in alloc; "(not {a})")
+        }
         Judge::And(parts) => {
-            answer.push_str("(and")?;
-            push_parts(answer, parts.get())
+            let parts = parts_text(alloc, parts.get())?;
+            format!(in alloc; "(and{parts})")
         }
         Judge::Or(parts) => {
-            answer.push_str("(or")?;
-            push_parts(answer, parts.get())
+            let parts = parts_text(alloc, parts.get())?;
+            format!(in alloc; "(or{parts})")
         }
-        Judge::Is(tested, a) => push_one(answer, head_of(*tested), a.get()),
+        Judge::Is(tested, a) => {
+            let a = judge_text(alloc, a.get())?;
+            let head = head_of(*tested);
+            format!(in alloc; "({head} {a})")
+        }
         Judge::Exists(table, condition) => {
-            write!(answer, "(exists {table} ")?;
-            push_judge(answer, condition.get())?;
-            answer.push_str(")")
+            let condition = judge_text(alloc, condition.get())?;
+            format!(in alloc; "(exists {table} {condition})")
         }
     }
 }

@@ -7,11 +7,10 @@ mod judges;
 mod tables;
 
 use case_lines::{answer_cases, text_of};
-use judges::push_judge;
+use judges::judge_text;
 use rt_policy::{ExprFault, Judge, parse, resolve};
 use rt_sql::{SqlFault, Token, tokens};
 use std::alloc::{AllocError, Global};
-use std::fmt::Write;
 use std::io;
 use tables::notes_scope;
 
@@ -25,27 +24,25 @@ fn judge_of(alloc: Global, text: &str, tokens: &[Token]) -> Result<Judge, ExprFa
     resolve(alloc, &scope, &expr)
 }
 
-fn push_fault(answer: &mut String, fault: ExprFault) -> Result<(), AllocError> {
+fn fault_text(alloc: Global, fault: ExprFault) -> Result<String, AllocError> {
     match fault {
         ExprFault::NoMemory => Err(AllocError),
-        ExprFault::BadExpr { at } => write!(answer, "bad expr at {at}"),
-        ExprFault::TooDeep { .. } => answer.push_str("too deep"),
-        ExprFault::UnknownName => answer.push_str("unknown name"),
-        ExprFault::BadType => answer.push_str("bad type"),
+        ExprFault::BadExpr { at } => format!(in alloc; "bad expr at {at}"),
+        ExprFault::TooDeep { .. } => String::from_str(alloc, "too deep"),
+        ExprFault::UnknownName => String::from_str(alloc, "unknown name"),
+        ExprFault::BadType => String::from_str(alloc, "bad type"),
     }
 }
 
 fn answer(alloc: Global, case: &str) -> Result<String, AllocError> {
-    let mut answer = String::new(alloc);
     match tokens(alloc, case) {
-        Err(SqlFault::NoMemory) => return Err(AllocError),
-        Err(SqlFault::BadToken { .. }) => answer.push_str("no token")?,
+        Err(SqlFault::NoMemory) => Err(AllocError),
+        Err(SqlFault::BadToken { .. }) => String::from_str(alloc, "no token"),
         Ok(tokens) => match judge_of(alloc, case, tokens.as_slice()) {
-            Ok(judge) => push_judge(&mut answer, &judge)?,
-            Err(fault) => push_fault(&mut answer, fault)?,
+            Ok(judge) => judge_text(alloc, &judge),
+            Err(fault) => fault_text(alloc, fault),
         },
     }
-    Ok(answer)
 }
 
 fn answer_line(alloc: Global, case: &[u8]) -> io::Result<String> {
