@@ -1,4 +1,5 @@
 mod AuditsComputed
+mod ConditionsComputed
 mod CrowdComputed
 mod CutsComputed
 mod DeletesComputed

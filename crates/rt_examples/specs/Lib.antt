@@ -1,5 +1,6 @@
 pub mod Audits
 pub mod Computes
+pub mod Conditions
 pub mod Crowd
 pub mod Cuts
 pub mod Deletes

@@ -7,7 +7,8 @@ use Rattle.rt_value.specs.Choice.{is_at}
 use Rattle.rt_policy.specs.declared.judge.Judge.{Judge}
 use Rattle.rt_policy.specs.declared.scope.Scope.{Scope}
 use Rattle.rt_policy.specs.declared.fault.ExprFault.{ExprFault}
-use Rattle.rt_policy.specs.Resolution.{Reading, Meaning, meaning_step, as_condition, resolved}
+use Rattle.rt_policy.specs.declared.meaning.Meaning.{Meaning}
+use Rattle.rt_policy.specs.Resolution.{Reading, meaning_step, as_condition, resolved}
 use Rattle.rt_policy.specs.Readings.{TableReading, Named, named_step, readings_of}
 use Rattle.rt_policy.specs.Sizes.{names_step, enclosing_step, depth_limit}
 use Rattle.rt_catalog.specs.declared.fault.Why.{Why}

@@ -20,6 +20,10 @@ ghost use Rattle.rt_examples.specs.Audits.{FirstRunIsAudited, RenewalIsAudited};
 ghost use Rattle.rt_examples.specs.Audits.{FiltersAreAudited, DeletesAreAudited};
 ghost use Rattle.rt_examples.specs.Audits.{ErrorsAreAudited, HiddenKeyIsAudited};
 ghost use Rattle.rt_examples.specs.Audits.{IdentityIsAudited, KeptRowIsAudited};
+ghost use Rattle.rt_examples.specs.Conditions.{MembersReadIsWritten, MembersReadIsResolved};
+ghost use Rattle.rt_examples.specs.Conditions.{SharedIsResolved, AliasHidesTheName};
+ghost use Rattle.rt_examples.specs.Conditions.{InnerColumnComesFirst, NotInIsNegated, CastIsRead};
+ghost use Rattle.rt_examples.specs.Conditions.{CastOutOfRange, IsNotUnknown, DepthIsCounted};
 ghost use Rattle.rt_examples.specs.Crowd.{FormerIsNotCounted, OneMoreIsRefused};
 ghost use Rattle.rt_examples.specs.Gone.{RowIsGone, BothAreDelivered};
 ghost use Rattle.rt_examples.specs.Cuts.{CutIsGiven, CutIsShown};
@@ -204,4 +208,19 @@ pub fn private_channels()
     ensures readers { ReadersDontSend }
     ensures posts { MembersPost }
     ensures no_posts { ReadersDontPost }
+{}
+
+/// Conditions of policies: the tokens that write the usual set's EXISTS, what it means, and the rules
+/// of aliases, of columns of two tables, of NOT IN, casts, IS NOT UNKNOWN and of depth.
+pub fn conditions()
+    ensures written { MembersReadIsWritten }
+    ensures resolved { MembersReadIsResolved }
+    ensures shared { SharedIsResolved }
+    ensures alias { AliasHidesTheName }
+    ensures inner { InnerColumnComesFirst }
+    ensures not_in { NotInIsNegated }
+    ensures cast { CastIsRead }
+    ensures range { CastOutOfRange }
+    ensures not_unknown { IsNotUnknown }
+    ensures depth { DepthIsCounted }
 {}

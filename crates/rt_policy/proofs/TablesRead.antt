@@ -1,5 +1,6 @@
 -- The tables that a resolved expression reads are those of its readings.
-use Rattle.std.proofs.Common.{◌≡◌, ℕ, Bool, true, false, ◌||◌, not, cond, List, [], ◌∷◌, ◌++◌, map, Option, Some, None, Ok, Err, refl, ap, ap₂, sym, ◌∙◌, subst, append-nil}
+use Rattle.std.proofs.Common.{◌≡◌, ℕ, Bool, true, false, ◌||◌, not, cond, List, [], ◌∷◌, ◌++◌, map, Option, Some, None}
+use Rattle.std.proofs.Common.{Ok, refl, ap, ap₂, sym, ◌∙◌, subst, append-nil}
 use Rattle.std.specs.Prelude.{option_map}
 use Rattle.std.specs.List.{list_any, flat_map}
 use Rattle.std.proofs.lemmas.List.{map-append}
@@ -14,7 +15,7 @@ use Rattle.rt_policy.specs.declared.judge.Tested.TheVariants as tested
 use Rattle.rt_policy.specs.declared.judge.Judge.{Judge}
 use Rattle.rt_policy.specs.declared.judge.Judge.TheVariants as judge
 use Rattle.rt_policy.specs.declared.judge.Judge.TheOpen.{Judge-F}
-use Rattle.rt_policy.specs.declared.judge.Judge.TheFolds.{fold-Judge, fold-roll-Judge}
+use Rattle.rt_policy.specs.declared.judge.Judge.TheFolds.{fold-roll-Judge}
 use Rattle.rt_policy.specs.declared.meaning.Group.{Group}
 use Rattle.rt_policy.specs.declared.meaning.Group.TheVariants as group
 use Rattle.rt_policy.specs.declared.meaning.Found.{Found}
@@ -29,14 +30,18 @@ use Rattle.rt_policy.specs.declared.expr.Expr.{Expr}
 use Rattle.rt_policy.specs.declared.expr.Expr.TheOpen.{Expr-F}
 use Rattle.rt_policy.specs.declared.expr.Expr.TheViews.{roll-Expr}
 use Rattle.rt_policy.specs.declared.expr.Expr.TheFolds.{fold-roll-Expr, ind-Expr, map-Expr}
-use Rattle.rt_policy.specs.declared.fault.ExprFault.{ExprFault}
 use Rattle.rt_policy.specs.declared.scope.Scope.{Scope}
 use Rattle.rt_policy.specs.Types.{meaning_of}
-use Rattle.rt_policy.specs.Resolution.{Reading, group_of, same_group, kind_in, is_unnamed, is_mistyped, constant, within, truth_given, judge_as, all_as}
-use Rattle.rt_policy.specs.Resolution.{typed_or, truth_or, of_truth, of_truths, compared_by, common_group, negated_if, among, number_text, literal_meaning, cast_meaning, read_as}
-use Rattle.rt_policy.specs.Resolution.{judge_of, typed_column, column_meaning, column_found, table_read, selected_meaning, condition_meaning, true_meaning}
-use Rattle.rt_policy.specs.Resolution.{exists_meaning, exists_in, is_meaning, meaning_step, meaning_in, as_condition, resolved}
-use Rattle.rt_policy.specs.Readings.{TableReading, Named, named_step, named_in, readings_of, readings_at, readings_within, tables_step, tables_of}
+use Rattle.rt_policy.specs.Resolution.{Reading, group_of, same_group, kind_in, is_unnamed, is_mistyped, constant}
+use Rattle.rt_policy.specs.Resolution.{within, truth_given, judge_as, all_as}
+use Rattle.rt_policy.specs.Resolution.{typed_or, truth_or, of_truth, compared_by, common_group, negated_if}
+use Rattle.rt_policy.specs.Resolution.{among, number_text, literal_meaning, cast_meaning, read_as}
+use Rattle.rt_policy.specs.Resolution.{typed_column, column_meaning, column_found, table_read}
+use Rattle.rt_policy.specs.Resolution.{selected_meaning, condition_meaning}
+use Rattle.rt_policy.specs.Resolution.{exists_in, is_meaning, meaning_step, meaning_in, as_condition}
+use Rattle.rt_policy.specs.Resolution.{resolved}
+use Rattle.rt_policy.specs.Readings.{TableReading, Named, named_step, named_in, readings_of, readings_at}
+use Rattle.rt_policy.specs.Readings.{readings_within, tables_step, tables_of}
 
 of_literal : (v : Value) → tables_of (judge.Literal v) ≡ []
 of_literal v = ap tables_of (sym (judge.rolls-Literal v)) ∙ fold-roll-Judge (List ℕ) tables_step (Judge-F.Literal v)
@@ -57,7 +62,8 @@ of_claim : (name : List ℕ) → tables_of (judge.Claim name) ≡ []
 of_claim name = ap tables_of (sym (judge.rolls-Claim name)) ∙ fold-roll-Judge (List ℕ) tables_step (Judge-F.Claim name)
 
 of_compare : (op : Comparison) (a b : Judge) → tables_of (judge.Compare op a b) ≡ tables_of a ++ tables_of b
-of_compare op a b = ap tables_of (sym (judge.rolls-Compare op a b)) ∙ fold-roll-Judge (List ℕ) tables_step (Judge-F.Compare op a b)
+of_compare op a b =
+    ap tables_of (sym (judge.rolls-Compare op a b)) ∙ fold-roll-Judge (List ℕ) tables_step (Judge-F.Compare op a b)
 
 abbrev all_tables : List Judge → List ℕ
 all_tables js = flat_map (λ (t : List ℕ). t) (map tables_of js)
@@ -118,7 +124,8 @@ within_gives : (g : Group) (ts : List ℕ) (m : Meaning) → Reads ts m → Give
 within_gives g ts meaning.Unnamed h = tt
 within_gives g ts meaning.Mistyped h = tt
 within_gives g ts (meaning.OpenText t) h =
-    subst (λ us. Gives us (constant (value_in_text (kind_in g) t))) (sym h) (constant_gives (value_in_text (kind_in g) t))
+    let read = value_in_text (kind_in g) t in
+    subst (λ us. Gives us (constant read)) (sym h) (constant_gives read)
 within_gives g ts meaning.OpenNull h = of_literal value.Null ∙ sym h
 within_gives g ts (meaning.Typed k j) h = gated (same_group g k) ts j h
 
@@ -138,7 +145,8 @@ judge_gives wanted.Truth ts m h = truth_gives ts m h
 judge_gives (wanted.Of g) ts m h = within_gives g ts m h
 
 -- a judge that is made of one
-mapped_gives : (make : Judge → Judge) → ((j : Judge) → tables_of (make j) ≡ tables_of j) → (ts : List ℕ) (o : Option Judge) →
+mapped_gives : (make : Judge → Judge) → ((j : Judge) → tables_of (make j) ≡ tables_of j) →
+    (ts : List ℕ) (o : Option Judge) →
     Gives ts o → Gives ts (option_map make o)
 mapped_gives make keeps ts None h = tt
 mapped_gives make keeps ts (Some j) h = keeps j ∙ h
@@ -150,7 +158,8 @@ negated_keeps false j = refl
 one_reads : (make : Judge → Judge) → ((j : Judge) → tables_of (make j) ≡ tables_of j) → (ts : List ℕ) (m : Meaning) →
     Reads ts m → Reads ts (of_truth m make)
 one_reads make keeps ts m h =
-    truth_reads (is_unnamed m) ts (option_map make (truth_given m)) (mapped_gives make keeps ts (truth_given m) (truth_gives ts m h))
+    truth_reads (is_unnamed m) ts (option_map make (truth_given m))
+    (mapped_gives make keeps ts (truth_given m) (truth_gives ts m h))
 
 -- two judges, or a judge and a list
 pair_gives : (op : Comparison) (ts us : List ℕ) (a b : Option Judge) → Gives ts a → Gives us b →
@@ -159,7 +168,8 @@ pair_gives op ts us None b h k = tt
 pair_gives op ts us (Some x) None h k = tt
 pair_gives op ts us (Some x) (Some y) h k = of_compare op x y ∙ ap₂ (λ v w. v ++ w) h k
 
-with_gives : (negated : Bool) (ts us : List ℕ) (a : Option Judge) (b : Option (List Judge)) → Gives ts a → AllGive us b →
+with_gives : (negated : Bool) (ts us : List ℕ) (a : Option Judge) (b : Option (List Judge)) → Gives ts a →
+    AllGive us b →
     Gives (ts ++ us) (a >>= λ x. option_map (λ js. negated_if negated (judge.OneOf x js)) b)
 with_gives negated ts us None b h k = tt
 with_gives negated ts us (Some x) None h k = tt
@@ -172,21 +182,30 @@ more_give ts us None b h k = tt
 more_give ts us (Some j) None h k = tt
 more_give ts us (Some j) (Some js) h k = ap₂ (λ v w. v ++ w) h k
 
-many_read : (make : List Judge → Judge) → ((js : List Judge) → tables_of (make js) ≡ all_tables js) → (u : Bool) (ts : List ℕ) (o : Option (List Judge)) →
+many_read : (make : List Judge → Judge) → ((js : List Judge) → tables_of (make js) ≡ all_tables js) →
+    (u : Bool) (ts : List ℕ) (o : Option (List Judge)) →
     AllGive ts o → Reads ts (truth_or u (option_map make o))
 many_read make keeps true ts o h = tt
 many_read make keeps false ts None h = tt
 many_read make keeps false ts (Some js) h = keeps js ∙ h
 
-is_reads : (negated : Bool) (asked : Tested) (ts : List ℕ) (m : Meaning) → Reads ts m → Reads ts (is_meaning negated asked m)
+is_keeps : (negated : Bool) (asked : Tested) (j : Judge) →
+    tables_of (negated_if negated (judge.Is asked j)) ≡ tables_of j
+is_keeps negated asked j = negated_keeps negated (judge.Is asked j) ∙ of_is asked j
+
+is_reads : (negated : Bool) (asked : Tested) (ts : List ℕ) (m : Meaning) → Reads ts m →
+    Reads ts (is_meaning negated asked m)
 is_reads negated tested.Null ts m h =
+    let make = λ (j : Judge). negated_if negated (judge.Is tested.Null j) in
     let made = within (common_group (m ∷ [])) m in
-    truth_reads (is_unnamed m) ts (option_map (λ j. negated_if negated (judge.Is tested.Null j)) made)
-    (mapped_gives (λ j. negated_if negated (judge.Is tested.Null j)) (λ j. negated_keeps negated (judge.Is tested.Null j) ∙ of_is tested.Null j) ts made
-    (within_gives (common_group (m ∷ [])) ts m h))
-is_reads negated tested.True ts m h = one_reads (λ j. negated_if negated (judge.Is tested.True j)) (λ j. negated_keeps negated (judge.Is tested.True j) ∙ of_is tested.True j) ts m h
-is_reads negated tested.False ts m h = one_reads (λ j. negated_if negated (judge.Is tested.False j)) (λ j. negated_keeps negated (judge.Is tested.False j) ∙ of_is tested.False j) ts m h
-is_reads negated tested.Unknown ts m h = one_reads (λ j. negated_if negated (judge.Is tested.Unknown j)) (λ j. negated_keeps negated (judge.Is tested.Unknown j) ∙ of_is tested.Unknown j) ts m h
+    truth_reads (is_unnamed m) ts (option_map make made)
+    (mapped_gives make (is_keeps negated tested.Null) ts made (within_gives (common_group (m ∷ [])) ts m h))
+is_reads negated tested.True ts m h =
+    one_reads (λ j. negated_if negated (judge.Is tested.True j)) (is_keeps negated tested.True) ts m h
+is_reads negated tested.False ts m h =
+    one_reads (λ j. negated_if negated (judge.Is tested.False j)) (is_keeps negated tested.False) ts m h
+is_reads negated tested.Unknown ts m h =
+    one_reads (λ j. negated_if negated (judge.Is tested.Unknown j)) (is_keeps negated tested.Unknown) ts m h
 
 literal_reads : (l : Literal) → Reads [] (literal_meaning l)
 literal_reads (literal.Text t) = refl
@@ -216,7 +235,8 @@ column_reads : (o : Option Found) → Reads [] (column_meaning o)
 column_reads None = tt
 column_reads (Some f) = typed_column_reads f (group_of f.kind)
 
-exists_made : (n : ℕ) (ts : List ℕ) (w : Bool) (o : Option Judge) → Gives ts o → Reads (n ∷ ts) (truth_or w (option_map (judge.Exists n) o))
+exists_made : (n : ℕ) (ts : List ℕ) (w : Bool) (o : Option Judge) → Gives ts o →
+    Reads (n ∷ ts) (truth_or w (option_map (judge.Exists n) o))
 exists_made n ts true o h = tt
 exists_made n ts false None h = tt
 exists_made n ts false (Some j) h = of_exists n j ∙ ap (λ us. n ∷ us) h
@@ -268,7 +288,8 @@ module _ (scope : Scope) where
       let parts = map (λ (h : Part). h at) (map (meaning_in scope) (exprs ks)) in
       subst (λ ts. AllGive ts (judge_as w (mean k at) >>= λ j. option_map (λ js. j ∷ js) (all_as w parts)))
       (sym (two (named k).readings rest))
-      (more_give _ _ (judge_as w (mean k at)) (all_as w parts) (judge_gives w _ (mean k at) (k.1 at)) (all_read w at ks))
+      (more_give _ _ (judge_as w (mean k at)) (all_as w parts) (judge_gives w _ (mean k at) (k.1 at))
+      (all_read w at ks))
 
   condition_read : (r : Reading) (c : Option Known) →
       Reads (tables_in (readings_within (option_map named c))) (condition_meaning r (option_map mean c))
@@ -281,7 +302,8 @@ module _ (scope : Scope) where
   exists_read s c (Some r) =
       let selects = selected_meaning scope r s in
       let condition = condition_meaning r (option_map mean c) in
-      exists_reads r.number (is_unnamed selects || is_unnamed condition) (is_mistyped selects || not r.table.keyed) _ condition (condition_read r c)
+      exists_reads r.number (is_unnamed selects || is_unnamed condition)
+      (is_mistyped selects || not r.table.keyed) _ condition (condition_read r c)
 
   stepped : (y : Expr-F Known) →
       IsRead (meaning_step scope (map-Expr Expr Part (meaning_in scope) (map-Expr Known Expr (λ k. k.0) y)))
@@ -307,20 +329,23 @@ module _ (scope : Scope) where
       let g = common_group (x ∷ parts) in
       subst (λ ts. Reads ts (among negated x parts)) (sym (two (named a).readings rest))
       (truth_reads (is_unnamed x || list_any is_unnamed parts) _ _
-      (with_gives negated _ _ (within g x) (all_as (wanted.Of g) parts) (within_gives g _ x (a.1 at)) (all_read (wanted.Of g) at items)))
+      (with_gives negated _ _ (within g x) (all_as (wanted.Of g) parts) (within_gives g _ x (a.1 at))
+      (all_read (wanted.Of g) at items)))
   stepped (Expr-F.Not a) at = one_reads judge.Not of_not _ (mean a at) (a.1 at)
   stepped (Expr-F.And all) at = many_read judge.And of_and _ _ _ (all_read wanted.Truth at all)
   stepped (Expr-F.Or all) at = many_read judge.Or of_or _ _ _ (all_read wanted.Truth at all)
   stepped (Expr-F.Is negated asked a) at = is_reads negated asked _ (mean a at) (a.1 at)
   stepped (Expr-F.Exists s schema table alias None) at = exists_read s None (table_read scope schema table alias)
-  stepped (Expr-F.Exists s schema table alias (Some c)) at = exists_read s (Some c) (table_read scope schema table alias)
+  stepped (Expr-F.Exists s schema table alias (Some c)) at =
+      exists_read s (Some c) (table_read scope schema table alias)
 
   layer : (y : Expr-F Known) → Read (roll-Expr (map-Expr Known Expr (λ k. k.0) y))
   layer y at =
       let form = map-Expr Known Expr (λ k. k.0) y in
+      let named_there = named_step scope (map-Expr Expr Named (named_in scope) form) in
       subst (λ (n : Named). Reads (tables_in n.readings) (meaning_in scope (roll-Expr form) at))
       (sym (fold-roll-Expr Named (named_step scope) form))
-      (subst (λ (m : Meaning). Reads (tables_in (named_step scope (map-Expr Expr Named (named_in scope) form)).readings) m)
+      (subst (λ (m : Meaning). Reads (tables_in named_there.readings) m)
       (sym (ap (λ (h : Part). h at) (fold-roll-Expr Part (meaning_step scope) form)))
       (stepped y at))
 
@@ -338,6 +363,7 @@ resolved_reads ts (meaning.Typed group.Truth k) j h e = let same : k ≡ j = cc 
 resolved_reads ts (meaning.Typed group.Uuid k) j h e = absurd (cc)
 resolved_reads ts (meaning.Typed group.Moment k) j h e = absurd (cc)
 
-pub tables_are_read : (scope : Scope) (e : Expr) (j : Judge) → resolved scope e ≡ Ok j → tables_of j ≡ map (λ r. r.table) (readings_of scope e)
+pub tables_are_read : (scope : Scope) (e : Expr) (j : Judge) → resolved scope e ≡ Ok j →
+    tables_of j ≡ map (λ r. r.table) (readings_of scope e)
 unfolding resolved readings_of
 tables_are_read scope e j is = resolved_reads _ (meaning_in scope e None) j (is_read scope e None) is

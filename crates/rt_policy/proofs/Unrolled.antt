@@ -9,7 +9,8 @@ use Rattle.rt_policy.specs.declared.scope.Scope.{Scope}
 use Rattle.rt_policy.specs.Resolution.{Reading, IsMeaning, meaning_step, meaning_in}
 use Rattle.rt_policy.specs.Readings.{Named, IsNaming, named_step, named_in}
 
-module _ (A : Type 0) (step : Expr-F A → A) (f : Expr → A) (by_forms : (form : Expr-F Expr) → f (roll-Expr form) ≡ step (map-Expr Expr A f form)) where
+module _ (A : Type 0) (step : Expr-F A → A) (f : Expr → A) (by_forms : (form : Expr-F Expr) →
+    f (roll-Expr form) ≡ step (map-Expr Expr A f form)) where
   abbrev Fold : Expr → A
   Fold = fold-Expr A step
 
@@ -23,7 +24,8 @@ module _ (A : Type 0) (step : Expr-F A → A) (f : Expr → A) (by_forms : (form
   items_same [] = refl
   items_same (p ∷ ps) = λ i. p.1 i ∷ items_same ps i
 
-  parts_same : (y : Expr-F Part) → map-Expr Expr A f (map-Expr Part Expr (λ p. p.0) y) ≡ map-Expr Expr A Fold (map-Expr Part Expr (λ p. p.0) y)
+  parts_same : (y : Expr-F Part) →
+      map-Expr Expr A f (map-Expr Part Expr (λ p. p.0) y) ≡ map-Expr Expr A Fold (map-Expr Part Expr (λ p. p.0) y)
   parts_same (Expr-F.Literal l) = refl
   parts_same (Expr-F.Cast l t) = refl
   parts_same Expr-F.Uid = refl
@@ -61,5 +63,6 @@ meaning_only scope mean by_forms e at =
 pub naming_by_forms : (scope : Scope) → IsNaming scope (named_in scope)
 naming_by_forms scope form = fold-roll-Expr Named (named_step scope) form
 
-pub naming_only : (scope : Scope) (named : Expr → Named) → IsNaming scope named → (e : Expr) → named e ≡ named_in scope e
+pub naming_only : (scope : Scope) (named : Expr → Named) → IsNaming scope named → (e : Expr) →
+    named e ≡ named_in scope e
 naming_only scope named by_forms e = is_fold Named (named_step scope) named by_forms e

@@ -32,7 +32,8 @@ abbrev pub nothing_named : Named
 nothing_named = record { columns = λ at. []; readings = [] }
 
 abbrev pub all_named : List Named → Named
-all_named parts = record { columns = λ at. flat_map (λ p. p.columns at) parts; readings = flat_map (λ p. p.readings) parts }
+all_named parts =
+    record { columns = λ at. flat_map (λ p. p.columns at) parts; readings = flat_map (λ p. p.readings) parts }
 
 -- `1` names no column, `*` every one
 abbrev pub named_by_selected : Scope → Reading → Selected → List ℕ
@@ -58,7 +59,8 @@ readings_within (Some n) = n.readings
 
 -- a subquery's own reading, then those of the subqueries in its condition
 abbrev pub readings_at : Scope → Selected → Option Named → Option Reading → List TableReading
-readings_at scope selects condition r = listed (option_map (reading_named scope selects condition) r) ++ readings_within condition
+readings_at scope selects condition r =
+    listed (option_map (reading_named scope selects condition) r) ++ readings_within condition
 
 abbrev pub named_step : Scope → Expr-F Named → Named
 named_step scope (Expr-F.Literal l) = nothing_named
@@ -66,7 +68,8 @@ named_step scope (Expr-F.Cast l t) = nothing_named
 named_step scope Expr-F.Uid = nothing_named
 named_step scope Expr-F.Role = nothing_named
 named_step scope (Expr-F.Claim name) = nothing_named
-named_step scope (Expr-F.Column qualifier name) = record { columns = λ at. inner_of (column_found scope at qualifier name); readings = [] }
+named_step scope (Expr-F.Column qualifier name) =
+    record { columns = λ at. inner_of (column_found scope at qualifier name); readings = [] }
 named_step scope (Expr-F.Group a) = a
 named_step scope (Expr-F.Compare op a b) = all_named (a ∷ b ∷ [])
 named_step scope (Expr-F.OneOf negated a items) = all_named (a ∷ items)

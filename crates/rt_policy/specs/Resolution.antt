@@ -1,7 +1,9 @@
--- What an expression means on a table: its names looked up, its constants read, and its kinds going together (PostgreSQL, "Type Conversion";
--- the groups are this project's profile).
-use Rattle.std.specs.Prelude.{◌≡◌, ℕ, ◌==◌, ℤ, pos, neg_ℤ, Bool, true, false, ◌&&◌, ◌||◌, not, if◌then◌else◌, List, [], ◌∷◌, ◌++◌, map, codes, slice_get, Option, Some, None, option_map, unwrap_or, find, Result, Ok, Err}
-use Rattle.std.specs.List.{list_any, list_all, filter_map, enumerate_from}
+-- What an expression means on a table: its names looked up, its constants read, and its kinds going together
+-- (PostgreSQL, "Type Conversion"; the groups are this project's profile).
+use Rattle.std.specs.Prelude.{◌≡◌, ℕ, Bool, true, false, ◌&&◌, ◌||◌, not, if◌then◌else◌, List, []}
+use Rattle.std.specs.Prelude.{◌∷◌, map, slice_get, Option, Some, None, option_map, unwrap_or, find, Result}
+use Rattle.std.specs.Prelude.{Ok, Err}
+use Rattle.std.specs.List.{list_any, enumerate_from}
 use Rattle.std.specs.Str.{bytes_eq}
 use Rattle.rt_value.specs.declared.value.Value.{Value}
 use Rattle.rt_value.specs.declared.value.Value.TheVariants as value
@@ -25,7 +27,6 @@ use Rattle.rt_policy.specs.declared.expr.Literal.{Literal}
 use Rattle.rt_policy.specs.declared.expr.Literal.TheVariants as literal
 use Rattle.rt_policy.specs.declared.expr.Selected.{Selected}
 use Rattle.rt_policy.specs.declared.expr.Selected.TheVariants as selected
-use Rattle.rt_policy.specs.declared.expr.TypeName.{TypeName}
 use Rattle.rt_policy.specs.declared.expr.Expr.{Expr}
 use Rattle.rt_policy.specs.declared.expr.Expr.TheOpen.{Expr-F}
 use Rattle.rt_policy.specs.declared.expr.Expr.TheViews.{roll-Expr}
@@ -147,7 +148,8 @@ number_text false digits = digits
 -- a literal without a cast; a number is whole, in the range of int8
 abbrev pub literal_meaning : Literal → Meaning
 literal_meaning (literal.Text t) = meaning.OpenText t
-literal_meaning (literal.Number minus digits) = typed_or group.Whole (constant (value_in_text kind.Int8 (number_text minus digits)))
+literal_meaning (literal.Number minus digits) =
+    typed_or group.Whole (constant (value_in_text kind.Int8 (number_text minus digits)))
 literal_meaning (literal.Truth b) = meaning.Typed group.Truth (judge.Literal (value.Bool b))
 literal_meaning literal.Null = meaning.OpenNull
 
@@ -155,10 +157,12 @@ abbrev pub read_as : Kind → List ℕ → Option Group → Meaning
 read_as k t None = meaning.Mistyped
 read_as k t (Some g) = typed_or g (constant (value_in_text k t))
 
--- a cast is of a text literal to one of the eight judged kinds, or of a number literal to a whole number kind whose range holds it
+-- a cast is of a text literal to one of the eight judged kinds, or of a number literal to a whole number kind whose
+-- range holds it
 abbrev pub cast_meaning : Literal → Kind → Meaning
 cast_meaning (literal.Text t) k = read_as k t (group_of k)
-cast_meaning (literal.Number minus digits) k = read_as k (number_text minus digits) (group_of k >>= λ g. some_if (same_group g group.Whole) g)
+cast_meaning (literal.Number minus digits) k =
+    read_as k (number_text minus digits) (group_of k >>= λ g. some_if (same_group g group.Whole) g)
 cast_meaning (literal.Truth b) k = meaning.Mistyped
 cast_meaning literal.Null k = meaning.Mistyped
 
@@ -172,7 +176,8 @@ abbrev pub column_named : List ℕ → TableView → Option (ℕ × ColumnView)
 column_named name table = find (λ c. bytes_eq c.1.name name) (enumerate_from 0 table.columns)
 
 abbrev pub table_named : Scope → List ℕ → List ℕ → Option (ℕ × TableView)
-table_named scope schema name = find (λ t. bytes_eq t.1.schema schema && bytes_eq t.1.name name) (enumerate_from 0 scope.tables)
+table_named scope schema name =
+    find (λ t. bytes_eq t.1.schema schema && bytes_eq t.1.name name) (enumerate_from 0 scope.tables)
 
 abbrev pub found_as : Bool → ℕ × ColumnView → Found
 found_as inner c = record { inner = inner; column = c.0; kind = c.1.kind }
@@ -199,8 +204,8 @@ abbrev pub or_else : {A : Type 0} → Option A → Option A → Option A
 or_else None other = other
 or_else (Some x) other = Some x
 
--- A column without qualifier inside an EXISTS is the inner table's where that has it, else the policy's table's. A qualifier is the inner
--- table's alias, or its name where it has no alias, else the name of the policy's table.
+-- A column without qualifier inside an EXISTS is the inner table's where that has it, else the policy's table's. A
+-- qualifier is the inner table's alias, or its name where it has no alias, else the name of the policy's table.
 abbrev pub column_found : Scope → Option Reading → Option (List ℕ) → List ℕ → Option Found
 column_found scope reading None name = or_else (inner_column name reading) (own_column name scope)
 column_found scope reading (Some qualifier) name =
@@ -249,16 +254,19 @@ is_mistyped _ = false
 abbrev pub exists_meaning : Reading → Meaning → Meaning → Meaning
 exists_meaning r selects condition =
     if is_unnamed selects || is_unnamed condition then meaning.Unnamed
-    else (if is_mistyped selects || not r.table.keyed then meaning.Mistyped else of_truth condition (judge.Exists r.number))
+    else (if is_mistyped selects || not r.table.keyed then meaning.Mistyped
+    else of_truth condition (judge.Exists r.number))
 
 abbrev pub exists_in : Scope → Selected → Option (Option Reading → Meaning) → Option Reading → Meaning
 exists_in scope selects condition None = meaning.Unnamed
-exists_in scope selects condition (Some r) = exists_meaning r (selected_meaning scope r selects) (condition_meaning r condition)
+exists_in scope selects condition (Some r) =
+    exists_meaning r (selected_meaning scope r selects) (condition_meaning r condition)
 
 -- IS NULL takes any operand, the others a truth value
 abbrev pub is_meaning : Bool → Tested → Meaning → Meaning
 is_meaning negated tested.Null a =
-    truth_or (is_unnamed a) (option_map (λ j. negated_if negated (judge.Is tested.Null j)) (within (common_group (a ∷ [])) a))
+    let g = common_group (a ∷ []) in
+    truth_or (is_unnamed a) (option_map (λ j. negated_if negated (judge.Is tested.Null j)) (within g a))
 is_meaning negated asked a = of_truth a (λ j. negated_if negated (judge.Is asked j))
 
 -- one level of an expression, each part with its meaning by what an EXISTS around it reads
@@ -293,6 +301,7 @@ as_condition meaning.Unnamed = Err UnknownName
 as_condition (meaning.Typed group.Truth j) = Ok j
 as_condition _ = Err BadType
 
--- what an expression means as a condition on the scope's table, or why it means nothing: an unknown name comes before a wrong type
+-- what an expression means as a condition on the scope's table, or why it means nothing: an unknown name comes before
+-- a wrong type
 unfoldable pub resolved : Scope → Expr → Result Judge ExprFault
 resolved scope e = as_condition (meaning_in scope e None)

@@ -27,18 +27,15 @@ kind_names =
     ∷ (codes "json", type_of Json (codes "json")) ∷ (codes "jsonb", type_of Json (codes "jsonb")) ∷ []
 
 -- the names of an opaque type that is shown by another name
-abbrev pub opaque_names : List (List ℕ × List ℕ)
+abbrev pub opaque_names : List (List ℕ × TypeMeaning)
 opaque_names =
-    (codes "real", codes "float4") ∷ (codes "float", codes "float8") ∷ (codes "decimal", codes "numeric") ∷ (codes "dec", codes "numeric")
-    ∷ (codes "char", codes "bpchar") ∷ (codes "character", codes "bpchar") ∷ []
-
--- what stands beside a name, where the name is in the list
-abbrev pub beside : {A : Type 0} → List ℕ → List (List ℕ × A) → Option A
-beside name pairs = option_map (λ n. n.1) (find (λ n. bytes_eq n.0 name) pairs)
+    (codes "real", type_of Opaque (codes "float4")) ∷ (codes "float", type_of Opaque (codes "float8")) ∷ (codes "decimal", type_of Opaque (codes "numeric"))
+    ∷ (codes "dec", type_of Opaque (codes "numeric")) ∷ (codes "char", type_of Opaque (codes "bpchar")) ∷ (codes "character", type_of Opaque (codes "bpchar"))
+    ∷ []
 
 -- every other type is opaque and shown by its name
 abbrev pub meaning_of_name : List ℕ → TypeMeaning
-meaning_of_name name = unwrap_or (beside name kind_names) (type_of Opaque (unwrap_or (beside name opaque_names) name))
+meaning_of_name name = unwrap_or (option_map (λ n. n.1) (find (λ n. bytes_eq n.0 name) (kind_names ++ opaque_names))) (type_of Opaque name)
 
 -- an array is opaque, and shown with `_` before its element's shown name
 abbrev pub array_of : Bool → TypeMeaning → TypeMeaning

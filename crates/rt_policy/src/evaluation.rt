@@ -4,7 +4,7 @@ ghost use Rattle.std.specs.Option.{option_copied};
 ghost use Rattle.rt_policy.specs.Lent.{value_of};
 ghost use Rattle.rt_policy.specs.Joining.{joined};
 ghost use Rattle.rt_policy.specs.Worth.{Place, worth, who_of, shows};
-ghost use Rattle.rt_policy.specs.Visibility.{visibility, view_of, truth_for, judged, lists};
+ghost use Rattle.rt_policy.specs.Visibility.{visibility, is_yes, view_of, truth_for, judged, lists};
 
 use crate::claims::{claim, uuid};
 use crate::joining::Joining;
@@ -40,6 +40,12 @@ fn is_open(entry: &TableRules, caller: &Caller<'_>) -> bool
     ensures { result ≡ (not entry.now.secured || caller.now.bypass) }
 {
     !entry.secured || caller.bypass
+}
+
+fn is_yes(seen: Seen) -> bool
+    ensures { result ≡ is_yes seen }
+{
+    matches!(seen, Seen::Yes)
 }
 
 /// The value of an expression, asked of a row and inside an EXISTS also of the row that it reads.
@@ -138,7 +144,7 @@ fn exists<'a, D: Db>(
         result ≡ list_any test (D.rows db.now table) }
 {
     for row in rows_in(db, table) {
-        if matches!(seen(rules, caller, table, row, db), Seen::Yes)
+        if is_yes(seen(rules, caller, table, row, db))
             && is_true(truth_of(worth_in(condition, outer, Some(row), caller, rules, db)))
         {
             return true;

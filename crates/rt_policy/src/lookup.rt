@@ -20,11 +20,7 @@ pub struct InnerTable<'a> {
 }
 
 /// The first table of a schema and a name, and its number.
-pub fn table_named<'a>(
-    scope: &'a Scope,
-    schema: &str,
-    name: &str,
-) -> Option<(usize, &'a TableView)>
+pub fn table_named<'a>(scope: &'a Scope, schema: &str, name: &str) -> Option<(usize, &'a TableView)>
     ensures { option_map (λ t. (t.0, t.1.now)) result ≡ table_named scope.now schema.now name.now }
 {
     let mut tables = scope.tables.get().iter().enumerate();

@@ -6,8 +6,10 @@ ghost use Rattle.rt_policy.specs.Resolution.{typed_or, number_text, literal_mean
 ghost use Rattle.rt_policy.specs.Resolution.{of_truth, of_truths, common_group, compared_by};
 ghost use Rattle.rt_policy.specs.Resolution.{negated_if, among, is_meaning};
 
-use crate::kinds::{any_unnamed, either_unnamed, first_given, group_given, group_of};
-use crate::kinds::{is_unnamed, kind_in, same_group, unnamed_with};
+use crate::kinds::{
+    any_unnamed, either_unnamed, first_given, group_given, group_of, is_unnamed, kind_in,
+    same_group, unnamed_with,
+};
 use crate::meaning::{Group, Meaning, Wanted};
 use crate::{Comparison, Judge, Literal, Tested};
 use rt_value::{Kind, List, Value, ValueFault, from_text};
@@ -89,7 +91,11 @@ fn within(alloc: Global, group: Group, part: Meaning) -> Result<Option<Judge>, A
         Meaning::Unnamed | Meaning::Mistyped => Ok(None),
         Meaning::OpenText(text) => constant(alloc, kind_in(group), text.get()),
         Meaning::OpenNull => Ok(Some(Judge::Literal(Value::Null))),
-        Meaning::Typed(own, judge) => Ok(if same_group(group, own) { Some(judge) } else { None }),
+        Meaning::Typed(own, judge) => Ok(if same_group(group, own) {
+            Some(judge)
+        } else {
+            None
+        }),
     }
 }
 

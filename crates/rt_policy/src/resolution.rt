@@ -8,7 +8,9 @@ ghost use Rattle.rt_policy.specs.Resolution.{table_read, meaning_in, as_conditio
 use crate::kinds::{either_unnamed, group_of, is_mistyped};
 use crate::lookup::{InnerTable, column_found, table_named};
 use crate::meaning::{Found, Group, Meaning};
-use crate::parts::{all, among, any, cast_meaning, compared, is, literal_meaning, not, truth_given};
+use crate::parts::{
+    all, among, any, cast_meaning, compared, is, literal_meaning, not, truth_given,
+};
 use crate::types::kind_of;
 use crate::{Expr, ExprFault, Judge, Scope, Selected, TableView};
 use rt_value::{Text, Value};
@@ -154,7 +156,12 @@ fn meaning_in(
             negated,
             tested,
             side,
-        } => is(alloc, *negated, *tested, meaning_in(alloc, scope, side.get(), at)?),
+        } => is(
+            alloc,
+            *negated,
+            *tested,
+            meaning_in(alloc, scope, side.get(), at)?,
+        ),
         Expr::Exists {
             selected,
             schema,

@@ -32,8 +32,8 @@ meaning_in-returns-in_ok-condition-in-Some t c =
     let scope = c.args.scope.now in
     let e = c.in-Exists in
     let read : Some (reading_at c.in-Some.inner) ≡ table_read scope e.schema e.table e.alias =
-        sym (ap (option_map reading_at) c.in-Some.is) ∙ c.in_ok-table_read-in-Exists.ensures
-        ∙ ap₂ (λ s n. table_read scope s n e.alias) c.get-in-Exists.ensures.bytes c.get-in-Exists-2.ensures.bytes in
+    sym (ap (option_map reading_at) c.in-Some.is) ∙ c.in_ok-table_read-in-Exists.ensures
+    ∙ ap₂ (λ s n. table_read scope s n e.alias) c.get-in-Exists.ensures.bytes c.get-in-Exists-2.ensures.bytes in
     subst (λ (x : Meaning). IfOk c.exists_meaning.result (λ m. m ≡ x))
     (exists_is scope c.args.expr.now e.selected e.schema e.table e.alias e.condition (option_map reading_at c.args.at)
     (reading_at c.in-Some.inner) _ _ e.is read c.in_ok-selects-in-Some.ensures c.in_ok-condition-in-Some.ensures)

@@ -1,7 +1,6 @@
-use Rattle.std.proofs.Common.{◌≡◌, ◌++◌, map, drop, List}
+use Rattle.std.proofs.Common.{◌≡◌, ◌++◌, map, drop}
 use Rattle.std.specs.Prelude.{option_map}
 use Rattle.rt_policy.specs.declared.expr.Expr.{Expr}
-use Rattle.rt_policy.specs.declared.meaning.Meaning.{Meaning}
 use Rattle.rt_policy.specs.InnerTable.{reading_at}
 use Rattle.rt_policy.specs.Resolution.{meaning_in}
 use Rattle.rt_policy.proofs.resolution.+meaning.Given as goal
