@@ -84,4 +84,4 @@ shallow_is : (f : Form) → is_shallow (expr_of f) ≡ nat_le (folded ℕ enclos
 shallow_is f = ap (λ n. nat_le (n + 1) depth_limit) (fold_is ℕ enclosing_step f)
 
 pub depth_is_counted_holds : DepthIsCounted
-depth_is_counted_holds = (depth_is (nots 31) ∙ refl, (shallow_is (nots 31) ∙ refl, shallow_is (nots 32) ∙ refl))
+depth_is_counted_holds = (depth_is (nots 31) ∙ refl, shallow_is (nots 31) ∙ refl, shallow_is (nots 32) ∙ refl)

@@ -3,7 +3,7 @@ ghost use Rattle.rt_policy.specs.declared.fault.ExprFault.TheVariants.{NoMemory}
 ghost use Rattle.rt_policy.specs.InnerTable.{reading_at};
 ghost use Rattle.rt_policy.specs.Resolution.{judge_of, column_meaning, true_meaning};
 ghost use Rattle.rt_policy.specs.Resolution.{selected_meaning, condition_meaning, exists_meaning};
-ghost use Rattle.rt_policy.specs.Resolution.{table_read, meaning_in, as_condition, resolved};
+ghost use Rattle.rt_policy.specs.Resolution.{qualifier_of, table_read, meaning_in, as_condition, resolved};
 
 use crate::kinds::{either_unnamed, group_of, is_mistyped};
 use crate::lookup::{InnerTable, column_found, table_named};
@@ -87,6 +87,16 @@ fn exists_meaning(
     }
 }
 
+/// An alias hides the table's name.
+fn qualifier_of<'a>(table: &'a str, alias: &'a Option<Text>) -> &'a str
+    ensures { result.now ≡ qualifier_of table.now alias.now }
+{
+    match alias {
+        None => table,
+        Some(alias) => alias.get(),
+    }
+}
+
 /// The table that an EXISTS reads. Fails where the table's number is 2^32 or more.
 fn table_read<'a>(
     scope: &'a Scope,
@@ -103,10 +113,7 @@ fn table_read<'a>(
     let Ok(number) = u32::try_from(number) else {
         return Err(AllocError);
     };
-    let qualifier = match alias {
-        None => table.name.get(),
-        Some(alias) => alias.get(),
-    };
+    let qualifier = qualifier_of(table.name.get(), alias);
     Ok(Some(InnerTable {
         number,
         table,
