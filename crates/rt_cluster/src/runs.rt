@@ -129,7 +129,7 @@ fn put(alloc: Global, runs: &mut Runs, others: &mut Others, dot: &Dot) -> Result
     }
 }
 
-/// Puts the dot in.
+/// Puts the dot in, where it isn't there.
 pub fn add_in(
     alloc: Global,
     runs: &mut Runs,
@@ -139,6 +139,9 @@ pub fn add_in(
     ensures { OnOk result ((d : DotData) →
         seen_in runs.new others.new d ≡ (is_dot d dot.now || seen_in runs.old others.old d)) }
 {
+    if has_in(runs, others, dot) {
+        return Ok(());
+    }
     put(alloc, runs, others, dot)?;
     absorb_all(alloc, runs, others, dot.node)?;
     Ok(())
