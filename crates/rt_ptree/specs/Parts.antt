@@ -35,9 +35,9 @@ Leaf K V = Arc (Node K (Entry K V)) Global
 abbrev pub leaf_list : {K V : Type 0} → Leaf K V → List (K × V)
 leaf_list l = node_list entry_list l
 
--- a leaf has at most 8 entries
+-- a leaf has at most 12 entries
 abbrev pub IsFitLeaf : {K V : Type 0} → Leaf K V → Type 0
-IsFitLeaf l = IsFitNode 8 entry_list (λ _. Unit {0}) l
+IsFitLeaf l = IsFitNode 12 entry_list (λ _. Unit {0}) l
 
 -- a branch: a node of leaves
 abbrev pub Branch : Type 0 → Type 0 → Type 0
@@ -46,9 +46,9 @@ Branch K V = Arc (Node K (Leaf K V)) Global
 abbrev pub branch_list : {K V : Type 0} → Branch K V → List (K × V)
 branch_list b = node_list leaf_list b
 
--- a branch has at most 16 leaves
+-- a branch has at most 12 leaves
 abbrev pub IsFitBranch : {K V : Type 0} → Branch K V → Type 0
-IsFitBranch b = IsFitNode 16 leaf_list IsFitLeaf b
+IsFitBranch b = IsFitNode 12 leaf_list IsFitLeaf b
 
 -- a limb: a node of branches
 abbrev pub Limb : Type 0 → Type 0 → Type 0
@@ -57,9 +57,9 @@ Limb K V = Arc (Node K (Branch K V)) Global
 abbrev pub limb_list : {K V : Type 0} → Limb K V → List (K × V)
 limb_list l = node_list branch_list l
 
--- a limb has at most 16 branches
+-- a limb has at most 12 branches
 abbrev pub IsFitLimb : {K V : Type 0} → Limb K V → Type 0
-IsFitLimb l = IsFitNode 16 branch_list IsFitBranch l
+IsFitLimb l = IsFitNode 12 branch_list IsFitBranch l
 
 -- a list of limbs, or none where a tree is empty
 abbrev pub Limbs : Type 0 → Type 0 → Type 0
@@ -70,7 +70,7 @@ abbrev pub tree_list : {K V : Type 0} → Limbs K V → List (K × V)
 tree_list None = []
 tree_list (Some a) = flat_map limb_list (arc_value a).items
 
--- no list of a tree is empty, a limb has at most 16 branches, a branch at most 16 leaves, and a leaf at most 8 entries
+-- no list of a tree is empty, a limb has at most 12 branches, a branch at most 12 leaves, and a leaf at most 12 entries
 abbrev pub IsFitTree : {K V : Type 0} → Limbs K V → Type 0
 IsFitTree None = Unit {0}
 IsFitTree (Some a) = (0 < length (arc_value a).items) × All IsFitLimb (arc_value a).items

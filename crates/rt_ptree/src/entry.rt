@@ -63,9 +63,9 @@ impl<K: Ord + Drop, V: Drop> Part<K, V> for Entry<K, V> {
 
     ghost is_fit = { λ _. Unit {0} };
 
-    const MOST: usize = 8;
+    const MOST: usize = 12;
 
-    ghost MOST = { 8 };
+    ghost MOST = { 12 };
 
     ghost halves = { leb_yes tt };
 

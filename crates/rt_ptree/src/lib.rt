@@ -1,7 +1,7 @@
 //! An ordered map whose snapshots share.
 //!
-//! A [`Tree`] has four levels: a list of limbs, each a list of at most 16 branches, each a list of at most 16
-//! leaves, each a list of at most 8 entries in the order of their keys. Every list, key and value stands
+//! A [`Tree`] has four levels: a list of limbs, each a list of at most 12 branches, each a list of at most 12
+//! leaves, each a list of at most 12 entries in the order of their keys. Every list, key and value stands
 //! behind an `Arc`, so a snapshot shares the lists. A change writes to one leaf and what stands above it
 //! where no snapshot has them, and makes anew what is shared.
 #![tactic(auto)]

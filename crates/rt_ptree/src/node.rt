@@ -62,9 +62,9 @@ impl<K: Ord + Drop, V, C: Part<K, V>> Part<K, V> for Arc<Node<K, C>> {
 
     ghost is_fit = { IsFitNode C.MOST C.entries C.is_fit };
 
-    const MOST: usize = 16;
+    const MOST: usize = 12;
 
-    ghost MOST = { 16 };
+    ghost MOST = { 12 };
 
     ghost halves = { leb_yes tt };
 
