@@ -1,16 +1,23 @@
 -- Whatever expression the grammar has is read.
-use Rattle.std.proofs.Common.{◌≡◌, ℕ, Bool, true, false, cond, ◌⊎◌, inl, inr, List, [], ◌∷◌, ◌++◌, codes, Option, Some, None, refl, ap, subst, sym, ◌∙◌}
+use Rattle.std.proofs.Common.{◌≡◌, ℕ, Bool, true, false, cond, ◌⊎◌, inl, inr, List, [], ◌∷◌, ◌++◌, codes, Option}
+use Rattle.std.proofs.Common.{Some, None, refl, ap, subst, sym, ◌∙◌}
 use Rattle.std.specs.Str.{bytes_eq}
 use Rattle.rt_value.specs.Places.{Answer, next, ends, stuck, ended, reads_on, reads}
 use Rattle.rt_sql.specs.declared.lexeme.TokenKind.TheVariants as kind
 use Rattle.rt_sql.specs.Lexeme.{Lexeme, IsKeyword, IsSign, kept_name, content}
 use Rattle.rt_policy.specs.Grammar as g
-use Rattle.rt_policy.specs.Grammar.{IsExpr, Ors, IsConjunction, Ands, IsNegation, TestedBy, Related, Items, IsOperand, Where, IsAlias, IsTableName, IsSelected, IsCall, IsAuth, IsNameWithin, IsLiteral, IsType, Lengths, Brackets, Length, IsColumn, conjunction, disjunction, tested_word}
+use Rattle.rt_policy.specs.Grammar.{IsExpr, Ors, IsConjunction, Ands, IsNegation, TestedBy, Related, Items}
+use Rattle.rt_policy.specs.Grammar.{IsOperand, Where, IsAlias, IsTableName, IsSelected, IsCall, IsAuth}
+use Rattle.rt_policy.specs.Grammar.{IsNameWithin, IsLiteral, IsType, Lengths, Brackets, Length, IsColumn}
+use Rattle.rt_policy.specs.Grammar.{conjunction, disjunction, tested_word}
 use Rattle.rt_policy.specs.Words.{class_of, class_at, blank, is_name}
 use Rattle.rt_policy.specs.Parts as p
 use Rattle.rt_policy.specs.Machine as m
-use Rattle.rt_policy.specs.Machine.{To, state, level, fresh, inside, Opens, given, close, closed, after_conjunction, after_negation, after_test, after_related, after_operand, after_item, over, moved_to, want, move, step}
-use Rattle.rt_policy.proofs.Classes.{means, kind_class, keyword_class, sign_class, comparison_class, name_class, kept_word}
+use Rattle.rt_policy.specs.Machine.{To, state, level, fresh, inside, Opens, given, close, closed, after_conjunction}
+use Rattle.rt_policy.specs.Machine.{after_negation, after_test, after_related, after_operand, after_item, over}
+use Rattle.rt_policy.specs.Machine.{moved_to, want, move, step}
+use Rattle.rt_policy.proofs.Classes.{means, kind_class, keyword_class, sign_class, comparison_class, name_class}
+use Rattle.rt_policy.proofs.Classes.{kept_word}
 use Rattle.rt_policy.proofs.FoundParts.{function_keyword}
 use Rattle.rt_policy.specs.declared.judge.Tested.{Tested}
 use Rattle.rt_policy.specs.declared.judge.Tested.TheVariants as tested
@@ -46,13 +53,16 @@ use Rattle.rt_policy.specs.declared.building.Frame.TheVariants as frame
 use Rattle.rt_policy.specs.declared.building.Mode.{Mode}
 use Rattle.rt_policy.specs.declared.building.Mode.TheVariants as mode
 use Rattle.rt_policy.specs.declared.building.State.{State}
-use Rattle.rt_policy.proofs.Again.{Reads, goes, leads, follow, conjunction_closed, negation_closed, opens_test, operand_related, tested_reads, over_reads, constant_over, name_over, called_over, by_name_goes, type_reads, literal_reads}
+use Rattle.rt_policy.proofs.Again.{Reads, goes, leads, follow, conjunction_closed, negation_closed, opens_test}
+use Rattle.rt_policy.proofs.Again.{operand_related, tested_reads, over_reads, constant_over, name_over, called_over}
+use Rattle.rt_policy.proofs.Again.{by_name_goes, type_reads, literal_reads}
 use Rattle.rt_policy.specs.declared.words.Word.{Word}
 use Rattle.rt_policy.specs.Machine.{start}
 
 -- Columns and calls
 
-begin_name : (c : Class) (x : Lexeme) (st : List Frame) (l : Level) (s : Slot) → is_name c ≡ true → want st l s (Some c) x ≡ m.within st l s (part.At (goal.Named (p.is_auth c) (kept_name x)))
+begin_name : (c : Class) (x : Lexeme) (st : List Frame) (l : Level) (s : Slot) → is_name c ≡ true
+    → want st l s (Some c) x ≡ m.within st l s (part.At (goal.Named (p.is_auth c) (kept_name x)))
 begin_name (class.Word word.And) x st l s h = absurd cc
 begin_name (class.Word word.Or) x st l s h = absurd cc
 begin_name (class.Word word.Not) x st l s h = absurd cc
@@ -71,40 +81,54 @@ begin_name (class.Compared op) x st l s h = absurd cc
 begin_name (class.Sign k) x st l s h = absurd cc
 begin_name _ x st l s h = refl
 
-name_begins : (name : List ℕ) (x : Lexeme) (xs : List Lexeme) (st : List Frame) (l : Level) (s : Slot) (out : Expr) → IsNameWithin name x
-    → ((auth : Bool) → Reads xs (state st l (mode.Within s (part.At (goal.Named auth name)))) out) → Reads (x ∷ xs) (state st l (mode.Want s)) out
+name_begins : (name : List ℕ) (x : Lexeme) (xs : List Lexeme) (st : List Frame) (l : Level) (s : Slot) (out : Expr)
+    → IsNameWithin name x
+    → ((auth : Bool) → Reads xs (state st l (mode.Within s (part.At (goal.Named auth name)))) out)
+    → Reads (x ∷ xs) (state st l (mode.Want s)) out
 name_begins name x xs st l s out named h =
     goes x (class_of x) xs st l (mode.Want s) out refl
     (ap (reads_on (reads step xs)) (begin_name (class_of x) x st l s (name_class name x named))
-    ∙ subst (λ (n : List ℕ). Reads xs (state st l (mode.Within s (part.At (goal.Named (p.is_auth (class_of x)) n)))) out) (sym named.0.1) (h (p.is_auth (class_of x))))
+    ∙ subst (λ (n : List ℕ). Reads xs (state st l (mode.Within s (part.At (goal.Named (p.is_auth
+    (class_of x)) n)))) out) (sym named.0.1) (h (p.is_auth (class_of x))))
 
 -- a name that is a function of `auth` is the function's name
-called_text : (auth : Bool) (f : Function) (name : List ℕ) (y : Lexeme) → p.called auth (p.word_in (class_of y)) ≡ Some f → IsNameWithin name y → p.function_text f ≡ name
+called_text : (auth : Bool) (f : Function) (name : List ℕ) (y : Lexeme)
+    → p.called auth (p.word_in (class_of y)) ≡ Some f → IsNameWithin name y → p.function_text f ≡ name
 called_text true f name y at named =
     let k = function_keyword (class_of y) y f refl at in sym k.1 ∙ sym (kept_word y k.0) ∙ named.0.1
 called_text false f name y at named = absurd cc
 
-dot_reads : (auth : Bool) (q name : List ℕ) (y : Lexeme) (xs : List Lexeme) (st : List Frame) (l : Level) (s : Slot) (out : Expr) → IsNameWithin name y
-    → Reads xs (given st l s (expr.Column (Some q) name)) out → Reads (y ∷ xs) (state st l (mode.Within s (part.At (goal.Dotted auth q)))) out
+dot_reads : (auth : Bool) (q name : List ℕ) (y : Lexeme) (xs : List Lexeme) (st : List Frame) (l : Level) (s :
+    Slot) (out : Expr) → IsNameWithin name y
+    → Reads xs (given st l s (expr.Column (Some q) name)) out
+    → Reads (y ∷ xs) (state st l (mode.Within s (part.At (goal.Dotted auth q)))) out
 dot_reads auth q name y xs st l s out named h = go (p.called auth (p.word_in (class_of y))) refl
   where
-    go : (f : Option Function) → p.called auth (p.word_in (class_of y)) ≡ f → Reads (y ∷ xs) (state st l (mode.Within s (part.At (goal.Dotted auth q)))) out
+    go : (f : Option Function) → p.called auth (p.word_in (class_of y)) ≡ f
+        → Reads (y ∷ xs) (state st l (mode.Within s (part.At (goal.Dotted auth q)))) out
     go None at =
         leads (goal.Dotted auth q) y (class_of y) (moved.Done (expr.Column (Some q) name)) xs st l s out refl
-        (ap (λ (f : Option Function). p.called_or q f (p.by_name (λ n. moved.Done (expr.Column (Some q) n)) (p.name_next (Some (class_of y)) y))) at
+        (ap (λ (f : Option Function). p.called_or q f (p.by_name (λ n. moved.Done (expr.Column (Some q) n))
+        (p.name_next (Some (class_of y)) y))) at
         ∙ by_name_goes (λ n. moved.Done (expr.Column (Some q) n)) name y named) h
     go (Some f) at =
         leads (goal.Dotted auth q) y (class_of y) (p.at (goal.Called f q)) xs st l s out refl
-        (ap (λ (f : Option Function). p.called_or q f (p.by_name (λ n. moved.Done (expr.Column (Some q) n)) (p.name_next (Some (class_of y)) y))) at)
+        (ap (λ (f : Option Function). p.called_or q f (p.by_name (λ n. moved.Done (expr.Column (Some q) n))
+        (p.name_next (Some (class_of y)) y))) at)
         (over_reads (goal.Called f q) (expr.Column (Some q) (p.function_text f)) (called_over f q) xs st l s out
-        (subst (λ (n : List ℕ). Reads xs (given st l s (expr.Column (Some q) n)) out) (sym (called_text auth f name y at named)) h))
+        (subst (λ (n : List ℕ). Reads xs (given st l s (expr.Column (Some q) n)) out) (sym
+        (called_text auth f name y at named)) h))
 
-column_reads : {q : Option (List ℕ)} {name : List ℕ} {xs ys : List Lexeme} → IsColumn q name xs ys → (st : List Frame) (l : Level) (s : Slot) (out : Expr)
+column_reads : {q : Option (List ℕ)} {name : List ℕ} {xs ys : List Lexeme} → IsColumn q name xs ys
+    → (st : List Frame) (l : Level) (s : Slot) (out : Expr)
     → Reads ys (given st l s (expr.Column q name)) out → Reads xs (state st l (mode.Want s)) out
 column_reads (g.bare {name = name} {x = x} {xs = xs} named) st l s out h =
-    name_begins name x xs st l s out named (λ auth. over_reads (goal.Named auth name) (expr.Column None name) (name_over auth name) xs st l s out h)
-column_reads (g.qualified {qualifier = q} {name = name} {x = x} {dot = dot} {y = y} {xs = xs} first is second) st l s out h =
-    name_begins q x (dot ∷ y ∷ xs) st l s out first (λ auth. goes dot (class.Sign sign.Dot) (y ∷ xs) st l (mode.Within s (part.At (goal.Named auth q))) out (sign_class (codes ".") dot is)
+    name_begins name x xs st l s out named (λ auth. over_reads (goal.Named auth name) (expr.Column None name)
+    (name_over auth name) xs st l s out h)
+column_reads (g.qualified {qualifier = q} {name = name} {x = x} {dot = dot} {y = y} {xs =
+    xs} first is second) st l s out h =
+    name_begins q x (dot ∷ y ∷ xs) st l s out first (λ auth. goes dot (class.Sign sign.Dot) (y ∷ xs) st l
+    (mode.Within s (part.At (goal.Named auth q))) out (sign_class (codes ".") dot is)
     (dot_reads auth q name y xs st l s out second h))
 
 -- `auth`, a dot and the function, with SELECT before them or without
@@ -116,109 +140,168 @@ abbrev Entered : Bool → Slot → Mode
 Entered true s = mode.Within s p.selecting
 Entered false s = mode.Want s
 
-auth_begins : (selected : Bool) (f : Function) (a dot x : Lexeme) (xs : List Lexeme) (st : List Frame) (l : Level) (s : Slot) (out : Expr) → IsKeyword (codes "auth") a → IsSign (codes ".") dot
-    → IsKeyword (p.function_text f) x → Reads xs (state st l (mode.Within s (behind_function selected f (kept_name a)))) out → Reads (a ∷ dot ∷ x ∷ xs) (state st l (Entered selected s)) out
+auth_begins : (selected : Bool) (f : Function) (a dot x : Lexeme) (xs : List Lexeme) (st : List Frame) (l : Level) (s :
+    Slot) (out : Expr) → IsKeyword (codes "auth") a → IsSign (codes ".") dot
+    → IsKeyword (p.function_text f) x → Reads xs (state st l (mode.Within s (behind_function selected f
+    (kept_name a)))) out → Reads (a ∷ dot ∷ x ∷ xs) (state st l (Entered selected s)) out
 auth_begins true function.Uid a dot x xs st l s out auth is named h =
-    goes a (class.Word word.Auth) (dot ∷ x ∷ xs) st l (mode.Within s p.selecting) out (keyword_class (codes "auth") a auth)
-    (goes dot (class.Sign sign.Dot) (x ∷ xs) st l (mode.Within s (part.One wanted.Dot goal.SelectedFunction)) out (sign_class (codes ".") dot is)
-    (goes x (class.Word word.Uid) xs st l (mode.Within s (part.At goal.SelectedFunction)) out (keyword_class (codes "uid") x named) h))
+    goes a (class.Word word.Auth) (dot ∷ x ∷ xs) st l (mode.Within s p.selecting) out (keyword_class
+    (codes "auth") a auth)
+    (goes dot (class.Sign sign.Dot) (x ∷ xs) st l (mode.Within s (part.One wanted.Dot goal.SelectedFunction)) out
+    (sign_class (codes ".") dot is)
+    (goes x (class.Word word.Uid) xs st l (mode.Within s (part.At goal.SelectedFunction)) out (keyword_class
+    (codes "uid") x named) h))
 auth_begins true function.Role a dot x xs st l s out auth is named h =
-    goes a (class.Word word.Auth) (dot ∷ x ∷ xs) st l (mode.Within s p.selecting) out (keyword_class (codes "auth") a auth)
-    (goes dot (class.Sign sign.Dot) (x ∷ xs) st l (mode.Within s (part.One wanted.Dot goal.SelectedFunction)) out (sign_class (codes ".") dot is)
-    (goes x (class.Word word.Role) xs st l (mode.Within s (part.At goal.SelectedFunction)) out (keyword_class (codes "role") x named) h))
+    goes a (class.Word word.Auth) (dot ∷ x ∷ xs) st l (mode.Within s p.selecting) out (keyword_class
+    (codes "auth") a auth)
+    (goes dot (class.Sign sign.Dot) (x ∷ xs) st l (mode.Within s (part.One wanted.Dot goal.SelectedFunction)) out
+    (sign_class (codes ".") dot is)
+    (goes x (class.Word word.Role) xs st l (mode.Within s (part.At goal.SelectedFunction)) out (keyword_class
+    (codes "role") x named) h))
 auth_begins true function.Jwt a dot x xs st l s out auth is named h =
-    goes a (class.Word word.Auth) (dot ∷ x ∷ xs) st l (mode.Within s p.selecting) out (keyword_class (codes "auth") a auth)
-    (goes dot (class.Sign sign.Dot) (x ∷ xs) st l (mode.Within s (part.One wanted.Dot goal.SelectedFunction)) out (sign_class (codes ".") dot is)
-    (goes x (class.Word word.Jwt) xs st l (mode.Within s (part.At goal.SelectedFunction)) out (keyword_class (codes "jwt") x named) h))
+    goes a (class.Word word.Auth) (dot ∷ x ∷ xs) st l (mode.Within s p.selecting) out (keyword_class
+    (codes "auth") a auth)
+    (goes dot (class.Sign sign.Dot) (x ∷ xs) st l (mode.Within s (part.One wanted.Dot goal.SelectedFunction)) out
+    (sign_class (codes ".") dot is)
+    (goes x (class.Word word.Jwt) xs st l (mode.Within s (part.At goal.SelectedFunction)) out (keyword_class
+    (codes "jwt") x named) h))
 auth_begins false function.Uid a dot x xs st l s out auth is named h =
     goes a (class.Word word.Auth) (dot ∷ x ∷ xs) st l (mode.Want s) out (keyword_class (codes "auth") a auth)
-    (goes dot (class.Sign sign.Dot) (x ∷ xs) st l (mode.Within s (part.At (goal.Named true (kept_name a)))) out (sign_class (codes ".") dot is)
-    (goes x (class.Word word.Uid) xs st l (mode.Within s (part.At (goal.Dotted true (kept_name a)))) out (keyword_class (codes "uid") x named) h))
+    (goes dot (class.Sign sign.Dot) (x ∷ xs) st l (mode.Within s (part.At (goal.Named true (kept_name a)))) out
+    (sign_class (codes ".") dot is)
+    (goes x (class.Word word.Uid) xs st l (mode.Within s (part.At (goal.Dotted true (kept_name a)))) out
+    (keyword_class (codes "uid") x named) h))
 auth_begins false function.Role a dot x xs st l s out auth is named h =
     goes a (class.Word word.Auth) (dot ∷ x ∷ xs) st l (mode.Want s) out (keyword_class (codes "auth") a auth)
-    (goes dot (class.Sign sign.Dot) (x ∷ xs) st l (mode.Within s (part.At (goal.Named true (kept_name a)))) out (sign_class (codes ".") dot is)
-    (goes x (class.Word word.Role) xs st l (mode.Within s (part.At (goal.Dotted true (kept_name a)))) out (keyword_class (codes "role") x named) h))
+    (goes dot (class.Sign sign.Dot) (x ∷ xs) st l (mode.Within s (part.At (goal.Named true (kept_name a)))) out
+    (sign_class (codes ".") dot is)
+    (goes x (class.Word word.Role) xs st l (mode.Within s (part.At (goal.Dotted true (kept_name a)))) out
+    (keyword_class (codes "role") x named) h))
 auth_begins false function.Jwt a dot x xs st l s out auth is named h =
     goes a (class.Word word.Auth) (dot ∷ x ∷ xs) st l (mode.Want s) out (keyword_class (codes "auth") a auth)
-    (goes dot (class.Sign sign.Dot) (x ∷ xs) st l (mode.Within s (part.At (goal.Named true (kept_name a)))) out (sign_class (codes ".") dot is)
-    (goes x (class.Word word.Jwt) xs st l (mode.Within s (part.At (goal.Dotted true (kept_name a)))) out (keyword_class (codes "jwt") x named) h))
+    (goes dot (class.Sign sign.Dot) (x ∷ xs) st l (mode.Within s (part.At (goal.Named true (kept_name a)))) out
+    (sign_class (codes ".") dot is)
+    (goes x (class.Word word.Jwt) xs st l (mode.Within s (part.At (goal.Dotted true (kept_name a)))) out
+    (keyword_class (codes "jwt") x named) h))
 
 -- where a claim's name leads
-claim_reads : (selected : Bool) (name : List ℕ) (x : Lexeme) (xs : List Lexeme) (st : List Frame) (l : Level) (s : Slot) (out : Expr) → g.IsText name x
+claim_reads : (selected : Bool) (name : List ℕ) (x : Lexeme) (xs : List Lexeme) (st : List Frame) (l : Level) (s :
+    Slot) (out : Expr) → g.IsText name x
     → reads_on (reads step xs) (moved_to st l s (p.claimed selected (expr.Claim name)) (Some class.Text)) ≡ Some out
     → Reads (x ∷ xs) (state st l (mode.Within s (part.At (goal.ClaimName selected)))) out
 claim_reads selected name x xs st l s out (k, same) h =
     goes x class.Text xs st l (mode.Within s (part.At (goal.ClaimName selected))) out (kind_class kind.Text x k)
-    (subst (λ (n : List ℕ). reads_on (reads step xs) (moved_to st l s (p.claimed selected (expr.Claim n)) (Some class.Text)) ≡ Some out) (sym same) h)
+    (subst (λ (n : List ℕ). reads_on (reads step xs) (moved_to st l s (p.claimed selected (expr.Claim n))
+    (Some class.Text)) ≡ Some out) (sym same) h)
 
 call_reads : {e : Expr} {xs ys : List Lexeme} → IsCall e xs ys → (st : List Frame) (l : Level) (s : Slot) (out : Expr)
     → Reads ys (given st l s e) out → Reads xs (state st l (mode.Want s)) out
-call_reads (g.uid (g.auth {a = a} {dot = dot} {f = f} {left = left} {right = right} {xs = xs} auth is named first last)) st l s out h =
+call_reads (g.uid (g.auth {a = a} {dot = dot} {f = f} {left = left} {right = right} {xs =
+    xs} auth is named first last)) st l s out h =
     auth_begins false function.Uid a dot f (left ∷ right ∷ xs) st l s out auth is named
-    (goes left (class.Sign sign.Open) (right ∷ xs) st l (mode.Within s (part.At (goal.Called function.Uid (kept_name a)))) out (sign_class (codes "(") left first)
-    (goes right (class.Sign sign.Close) xs st l (mode.Within s (part.One wanted.Close (goal.Whole expr.Uid))) out (sign_class (codes ")") right last) h))
-call_reads (g.role (g.auth {a = a} {dot = dot} {f = f} {left = left} {right = right} {xs = xs} auth is named first last)) st l s out h =
+    (goes left (class.Sign sign.Open) (right ∷ xs) st l (mode.Within s (part.At (goal.Called function.Uid
+    (kept_name a)))) out (sign_class (codes "(") left first)
+    (goes right (class.Sign sign.Close) xs st l (mode.Within s (part.One wanted.Close (goal.Whole expr.Uid))) out
+    (sign_class (codes ")") right last) h))
+call_reads (g.role (g.auth {a = a} {dot = dot} {f = f} {left = left} {right = right} {xs =
+    xs} auth is named first last)) st l s out h =
     auth_begins false function.Role a dot f (left ∷ right ∷ xs) st l s out auth is named
-    (goes left (class.Sign sign.Open) (right ∷ xs) st l (mode.Within s (part.At (goal.Called function.Role (kept_name a)))) out (sign_class (codes "(") left first)
-    (goes right (class.Sign sign.Close) xs st l (mode.Within s (part.One wanted.Close (goal.Whole expr.Role))) out (sign_class (codes ")") right last) h))
-call_reads (g.jwt {name = name} {arrow = arrow} {x = x} {ys = ys} (g.auth {a = a} {dot = dot} {f = f} {left = left} {right = right} auth is named first last) arrows text) st l s out h =
+    (goes left (class.Sign sign.Open) (right ∷ xs) st l (mode.Within s (part.At (goal.Called function.Role
+    (kept_name a)))) out (sign_class (codes "(") left first)
+    (goes right (class.Sign sign.Close) xs st l (mode.Within s (part.One wanted.Close (goal.Whole expr.Role))) out
+    (sign_class (codes ")") right last) h))
+call_reads (g.jwt {name = name} {arrow = arrow} {x = x} {ys = ys} (g.auth {a = a} {dot = dot} {f = f} {left =
+    left} {right = right} auth is named first last) arrows text) st l s out h =
     auth_begins false function.Jwt a dot f (left ∷ right ∷ arrow ∷ x ∷ ys) st l s out auth is named
-    (goes left (class.Sign sign.Open) (right ∷ arrow ∷ x ∷ ys) st l (mode.Within s (part.At (goal.Called function.Jwt (kept_name a)))) out (sign_class (codes "(") left first)
-    (goes right (class.Sign sign.Close) (arrow ∷ x ∷ ys) st l (mode.Within s (part.Two wanted.Close wanted.Arrow (goal.ClaimName false))) out (sign_class (codes ")") right last)
-    (goes arrow (class.Sign sign.Arrow) (x ∷ ys) st l (mode.Within s (part.One wanted.Arrow (goal.ClaimName false))) out (sign_class (codes "->>") arrow arrows)
+    (goes left (class.Sign sign.Open) (right ∷ arrow ∷ x ∷ ys) st l (mode.Within s (part.At (goal.Called function.Jwt
+    (kept_name a)))) out (sign_class (codes "(") left first)
+    (goes right (class.Sign sign.Close) (arrow ∷ x ∷ ys) st l (mode.Within s (part.Two wanted.Close wanted.Arrow
+    (goal.ClaimName false))) out (sign_class (codes ")") right last)
+    (goes arrow (class.Sign sign.Arrow) (x ∷ ys) st l (mode.Within s (part.One wanted.Arrow
+    (goal.ClaimName false))) out (sign_class (codes "->>") arrow arrows)
     (claim_reads false name x ys st l s out text h))))
 
-selected_call_reads : {e : Expr} {right : Lexeme} {xs ys : List Lexeme} → IsCall e xs (right ∷ ys) → IsSign (codes ")") right → (st : List Frame) (l : Level) (s : Slot) (out : Expr)
+selected_call_reads : {e : Expr} {right : Lexeme} {xs ys : List Lexeme} → IsCall e xs (right ∷ ys)
+    → IsSign (codes ")") right → (st : List Frame) (l : Level) (s : Slot) (out : Expr)
     → Reads ys (given st l s e) out → Reads xs (state st l (mode.Within s p.selecting)) out
-selected_call_reads {right = end} {ys = ys} (g.uid (g.auth {a = a} {dot = dot} {f = f} {left = left} {right = right} auth is named first last)) ended st l s out h =
+selected_call_reads {right = end} {ys = ys} (g.uid (g.auth {a = a} {dot = dot} {f = f} {left = left} {right =
+    right} auth is named first last)) ended st l s out h =
     auth_begins true function.Uid a dot f (left ∷ right ∷ end ∷ ys) st l s out auth is named
-    (goes left (class.Sign sign.Open) (right ∷ end ∷ ys) st l (mode.Within s (p.selected_part function.Uid)) out (sign_class (codes "(") left first)
-    (goes right (class.Sign sign.Close) (end ∷ ys) st l (mode.Within s (part.Two wanted.Close wanted.Close (goal.Whole expr.Uid))) out (sign_class (codes ")") right last)
-    (goes end (class.Sign sign.Close) ys st l (mode.Within s (part.One wanted.Close (goal.Whole expr.Uid))) out (sign_class (codes ")") end ended) h)))
-selected_call_reads {right = end} {ys = ys} (g.role (g.auth {a = a} {dot = dot} {f = f} {left = left} {right = right} auth is named first last)) ended st l s out h =
+    (goes left (class.Sign sign.Open) (right ∷ end ∷ ys) st l (mode.Within s (p.selected_part function.Uid)) out
+    (sign_class (codes "(") left first)
+    (goes right (class.Sign sign.Close) (end ∷ ys) st l (mode.Within s (part.Two wanted.Close wanted.Close
+    (goal.Whole expr.Uid))) out (sign_class (codes ")") right last)
+    (goes end (class.Sign sign.Close) ys st l (mode.Within s (part.One wanted.Close (goal.Whole expr.Uid))) out
+    (sign_class (codes ")") end ended) h)))
+selected_call_reads {right = end} {ys = ys} (g.role (g.auth {a = a} {dot = dot} {f = f} {left = left} {right =
+    right} auth is named first last)) ended st l s out h =
     auth_begins true function.Role a dot f (left ∷ right ∷ end ∷ ys) st l s out auth is named
-    (goes left (class.Sign sign.Open) (right ∷ end ∷ ys) st l (mode.Within s (p.selected_part function.Role)) out (sign_class (codes "(") left first)
-    (goes right (class.Sign sign.Close) (end ∷ ys) st l (mode.Within s (part.Two wanted.Close wanted.Close (goal.Whole expr.Role))) out (sign_class (codes ")") right last)
-    (goes end (class.Sign sign.Close) ys st l (mode.Within s (part.One wanted.Close (goal.Whole expr.Role))) out (sign_class (codes ")") end ended) h)))
-selected_call_reads {right = end} {ys = ys} (g.jwt {name = name} {arrow = arrow} {x = x} (g.auth {a = a} {dot = dot} {f = f} {left = left} {right = right} auth is named first last) arrows text) ended st l s out h =
+    (goes left (class.Sign sign.Open) (right ∷ end ∷ ys) st l (mode.Within s (p.selected_part function.Role)) out
+    (sign_class (codes "(") left first)
+    (goes right (class.Sign sign.Close) (end ∷ ys) st l (mode.Within s (part.Two wanted.Close wanted.Close
+    (goal.Whole expr.Role))) out (sign_class (codes ")") right last)
+    (goes end (class.Sign sign.Close) ys st l (mode.Within s (part.One wanted.Close (goal.Whole expr.Role))) out
+    (sign_class (codes ")") end ended) h)))
+selected_call_reads {right = end} {ys = ys} (g.jwt {name = name} {arrow = arrow} {x = x} (g.auth {a = a} {dot =
+    dot} {f = f} {left = left} {right = right} auth is named first last) arrows text) ended st l s out h =
     auth_begins true function.Jwt a dot f (left ∷ right ∷ arrow ∷ x ∷ end ∷ ys) st l s out auth is named
-    (goes left (class.Sign sign.Open) (right ∷ arrow ∷ x ∷ end ∷ ys) st l (mode.Within s (p.selected_part function.Jwt)) out (sign_class (codes "(") left first)
-    (goes right (class.Sign sign.Close) (arrow ∷ x ∷ end ∷ ys) st l (mode.Within s (part.Two wanted.Close wanted.Arrow (goal.ClaimName true))) out (sign_class (codes ")") right last)
-    (goes arrow (class.Sign sign.Arrow) (x ∷ end ∷ ys) st l (mode.Within s (part.One wanted.Arrow (goal.ClaimName true))) out (sign_class (codes "->>") arrow arrows)
+    (goes left (class.Sign sign.Open) (right ∷ arrow ∷ x ∷ end ∷ ys) st l (mode.Within s
+    (p.selected_part function.Jwt)) out (sign_class (codes "(") left first)
+    (goes right (class.Sign sign.Close) (arrow ∷ x ∷ end ∷ ys) st l (mode.Within s (part.Two wanted.Close wanted.Arrow
+    (goal.ClaimName true))) out (sign_class (codes ")") right last)
+    (goes arrow (class.Sign sign.Arrow) (x ∷ end ∷ ys) st l (mode.Within s (part.One wanted.Arrow
+    (goal.ClaimName true))) out (sign_class (codes "->>") arrow arrows)
     (claim_reads true name x (end ∷ ys) st l s out text
-    (goes end (class.Sign sign.Close) ys st l (mode.Within s (part.One wanted.Close (goal.Whole (expr.Claim name)))) out (sign_class (codes ")") end ended) h)))))
+    (goes end (class.Sign sign.Close) ys st l (mode.Within s (part.One wanted.Close (goal.Whole
+    (expr.Claim name)))) out (sign_class (codes ")") end ended) h)))))
 
 -- EXISTS
 
-from_reads : (sel : Selected) (x : Lexeme) (xs : List Lexeme) (st : List Frame) (l : Level) (s : Slot) (out : Expr) → IsKeyword (codes "from") x
-    → Reads xs (state st l (mode.Within s (part.At (goal.Table sel)))) out → Reads (x ∷ xs) (state st l (mode.Within s (part.One wanted.From (goal.Table sel)))) out
-from_reads sel x xs st l s out is h = goes x (class.Word word.From) xs st l (mode.Within s (part.One wanted.From (goal.Table sel))) out (keyword_class (codes "from") x is) h
+from_reads : (sel : Selected) (x : Lexeme) (xs : List Lexeme) (st : List Frame) (l : Level) (s : Slot) (out : Expr)
+    → IsKeyword (codes "from") x
+    → Reads xs (state st l (mode.Within s (part.At (goal.Table sel)))) out
+    → Reads (x ∷ xs) (state st l (mode.Within s (part.One wanted.From (goal.Table sel)))) out
+from_reads sel x xs st l s out is h =
+    goes x (class.Word word.From) xs st l (mode.Within s (part.One wanted.From (goal.Table sel))) out (keyword_class
+    (codes "from") x is) h
 
-selects_name : (c : Class) (x : Lexeme) → is_name c ≡ true → p.selects (Some c) x ≡ p.by_name (λ n. p.at (goal.SelectsName n)) (p.name_next (Some c) x)
+selects_name : (c : Class) (x : Lexeme) → is_name c ≡ true
+    → p.selects (Some c) x ≡ p.by_name (λ n. p.at (goal.SelectsName n)) (p.name_next (Some c) x)
 selects_name class.Number x h = absurd cc
 selects_name (class.Sign sign.Star) x h = absurd cc
 selects_name _ x h = refl
 
-first_selected : (name : List ℕ) (x : Lexeme) (xs : List Lexeme) (st : List Frame) (l : Level) (s : Slot) (out : Expr) → IsNameWithin name x
-    → Reads xs (state st l (mode.Within s (part.At (goal.SelectsName name)))) out → Reads (x ∷ xs) (state st l (mode.Within s (part.At goal.Selects))) out
+first_selected : (name : List ℕ) (x : Lexeme) (xs : List Lexeme) (st : List Frame) (l : Level) (s : Slot) (out :
+    Expr) → IsNameWithin name x
+    → Reads xs (state st l (mode.Within s (part.At (goal.SelectsName name)))) out
+    → Reads (x ∷ xs) (state st l (mode.Within s (part.At goal.Selects))) out
 first_selected name x xs st l s out named h =
     leads goal.Selects x (class_of x) (p.at (goal.SelectsName name)) xs st l s out refl
-    (selects_name (class_of x) x (name_class name x named) ∙ by_name_goes (λ n. p.at (goal.SelectsName n)) name x named) h
+    (selects_name (class_of x) x (name_class name x named)
+    ∙ by_name_goes (λ n. p.at (goal.SelectsName n)) name x named) h
 
-selected_reads : {sel : Selected} {from : Lexeme} {xs ys : List Lexeme} → IsSelected sel xs (from ∷ ys) → IsKeyword (codes "from") from → (st : List Frame) (l : Level) (s : Slot) (out : Expr)
-    → Reads ys (state st l (mode.Within s (part.At (goal.Table sel)))) out → Reads xs (state st l (mode.Within s (part.At goal.Selects))) out
+selected_reads : {sel : Selected} {from : Lexeme} {xs ys : List Lexeme} → IsSelected sel xs (from ∷ ys)
+    → IsKeyword (codes "from") from → (st : List Frame) (l : Level) (s : Slot) (out : Expr)
+    → Reads ys (state st l (mode.Within s (part.At (goal.Table sel)))) out
+    → Reads xs (state st l (mode.Within s (part.At goal.Selects))) out
 selected_reads {from = from} {ys = ys} (g.the_one {x = x} (k, same)) is st l s out h =
     leads goal.Selects x class.Number (p.from selected.One) (from ∷ ys) st l s out (kind_class kind.Number x k)
-    (ap (λ (b : List ℕ). p.one_or (bytes_eq b (codes "1")) moved.Bad) same) (from_reads selected.One from ys st l s out is h)
+    (ap (λ (b : List ℕ). p.one_or (bytes_eq b (codes "1")) moved.Bad) same)
+    (from_reads selected.One from ys st l s out is h)
 selected_reads {from = from} {ys = ys} (g.all_columns {x = x} star) is st l s out h =
-    goes x (class.Sign sign.Star) (from ∷ ys) st l (mode.Within s (part.At goal.Selects)) out (sign_class (codes "*") x star) (from_reads selected.All from ys st l s out is h)
+    goes x (class.Sign sign.Star) (from ∷ ys) st l (mode.Within s (part.At goal.Selects)) out (sign_class
+    (codes "*") x star) (from_reads selected.All from ys st l s out is h)
 selected_reads {from = from} {ys = ys} (g.the_column (g.bare {name = name} {x = x} named)) is st l s out h =
     first_selected name x (from ∷ ys) st l s out named
-    (goes from (class.Word word.From) ys st l (mode.Within s (part.At (goal.SelectsName name))) out (keyword_class (codes "from") from is) h)
-selected_reads {from = from} {ys = ys} (g.the_column (g.qualified {qualifier = q} {name = name} {x = x} {dot = dot} {y = y} first is_dot second)) is st l s out h =
+    (goes from (class.Word word.From) ys st l (mode.Within s (part.At (goal.SelectsName name))) out (keyword_class
+    (codes "from") from is) h)
+selected_reads {from = from} {ys = ys} (g.the_column (g.qualified {qualifier = q} {name = name} {x = x} {dot =
+    dot} {y = y} first is_dot second)) is st l s out h =
     first_selected q x (dot ∷ y ∷ from ∷ ys) st l s out first
-    (goes dot (class.Sign sign.Dot) (y ∷ from ∷ ys) st l (mode.Within s (part.At (goal.SelectsName q))) out (sign_class (codes ".") dot is_dot)
-    (leads (goal.SelectsDotted q) y (class_of y) (p.from (selected.Column (Some q) name)) (from ∷ ys) st l s out refl (by_name_goes (λ n. p.from (selected.Column (Some q) n)) name y second)
+    (goes dot (class.Sign sign.Dot) (y ∷ from ∷ ys) st l (mode.Within s (part.At (goal.SelectsName q))) out
+    (sign_class (codes ".") dot is_dot)
+    (leads (goal.SelectsDotted q) y (class_of y) (p.from (selected.Column (Some q) name)) (from ∷ ys) st l s out refl
+    (by_name_goes (λ n. p.from (selected.Column (Some q) n)) name y second)
     (from_reads (selected.Column (Some q) name) from ys st l s out is h)))
 
 -- a goal that goes on as one behind a source does
@@ -229,131 +312,180 @@ pub record IsSource (q : Goal) (r : Source) : Type 0 where
 -- a goal that goes on as one behind a table does
 pub record IsTable (q : Goal) (sel : Selected) (schema table : List ℕ) : Type 0 where
   pub source : IsSource q (p.source sel schema table None)
-  pub by_name : (c : Class) (x : Lexeme) → is_name c ≡ true → p.goal_moved q (Some c) x ≡ p.after_table sel schema table (Some c) x
+  pub by_name : (c : Class) (x : Lexeme) → is_name c ≡ true
+      → p.goal_moved q (Some c) x ≡ p.after_table sel schema table (Some c) x
 
 alias_is_table : (sel : Selected) (schema table : List ℕ) → IsTable (goal.Alias sel schema table) sel schema table
-alias_is_table sel schema table = record { source = record { by_where = λ x. refl; by_close = λ x. refl }; by_name = λ c x h. refl }
+alias_is_table sel schema table = record {
+  source = record { by_where = λ x. refl; by_close = λ x. refl };
+  by_name =
+      λ c x h. refl;
+}
 
 named_is_table : (sel : Selected) (table : List ℕ) → IsTable (goal.TableNamed sel table) sel (codes "public") table
 named_is_table sel table = record { source = record { by_where = λ x. refl; by_close = λ x. refl }; by_name = go }
   where
-    go : (c : Class) (x : Lexeme) → is_name c ≡ true → p.after_table_name sel table (Some c) x ≡ p.after_table sel (codes "public") table (Some c) x
+    go : (c : Class) (x : Lexeme) → is_name c ≡ true → p.after_table_name sel table (Some c) x ≡ p.after_table sel
+        (codes "public") table (Some c) x
     go (class.Sign k) x h = absurd cc
     go _ x h = refl
 
 aliased_is_source : (r : Source) → IsSource (goal.Aliased r) r
 aliased_is_source r = record { by_where = λ x. refl; by_close = λ x. refl }
 
-as_is_source : (sel : Selected) (schema table : List ℕ) → IsSource (goal.As sel schema table) (p.source sel schema table (Some (codes "as")))
+as_is_source : (sel : Selected) (schema table : List ℕ)
+    → IsSource (goal.As sel schema table) (p.source sel schema table (Some (codes "as")))
 as_is_source sel schema table = record { by_where = λ x. refl; by_close = λ x. refl }
 
 table_as : (sel : Selected) (schema table name : List ℕ) (c : Class) (x : Lexeme) → is_name c ≡ true
-    → (c ≡ class.Word word.As) ⊎ (p.after_table sel schema table (Some c) x ≡ p.alias_or sel schema table (p.after_source (p.source sel schema table None) (Some c)) (p.name_next (Some c) x))
+    → (c ≡ class.Word word.As) ⊎ (p.after_table sel schema table (Some c) x ≡ p.alias_or sel schema table
+    (p.after_source (p.source sel schema table None) (Some c)) (p.name_next (Some c) x))
 table_as sel schema table name (class.Word word.As) x h = inl refl
 table_as sel schema table name _ x h = inr refl
 
 -- where an alias leads
 alias_goes : (sel : Selected) (schema table name : List ℕ) (other : Moved) (x : Lexeme) → IsNameWithin name x
-    → p.alias_or sel schema table other (p.name_next (Some (class_of x)) x) ≡ p.at (goal.Aliased (p.source sel schema table (Some name)))
+    → p.alias_or sel schema table other (p.name_next (Some (class_of x)) x) ≡ p.at (goal.Aliased
+    (p.source sel schema table (Some name)))
 alias_goes sel schema table name other x is =
-    ap (λ (b : Bool). p.alias_or sel schema table other (p.name_if b x)) (name_class name x is) ∙ ap (λ (n : List ℕ). p.at (goal.Aliased (p.source sel schema table (Some n)))) is.0.1
+    ap (λ (b : Bool). p.alias_or sel schema table other (p.name_if b x)) (name_class name x is)
+    ∙ ap (λ (n : List ℕ). p.at (goal.Aliased (p.source sel schema table (Some n)))) is.0.1
 
 -- the goal behind an alias: of a word `as` that no name follows it is the one behind that word
 abbrev AliasReads : Goal → Selected → List ℕ → List ℕ → Option (List ℕ) → List Lexeme → List Lexeme → Type 0
 AliasReads q sel schema table name xs ys =
     (st : List Frame) (l : Level) (s : Slot) (out : Expr)
-    → ((k : Goal) → IsSource k (p.source sel schema table name) → Reads ys (state st l (mode.Within s (part.At k))) out) → Reads xs (state st l (mode.Within s (part.At q))) out
+    → ((k : Goal) → IsSource k (p.source sel schema table name)
+    → Reads ys (state st l (mode.Within s (part.At k))) out) → Reads xs (state st l (mode.Within s (part.At q))) out
 
 -- the word `as` as a name
 as_is : (name : List ℕ) (x : Lexeme) → class_of x ≡ class.Word word.As → IsNameWithin name x → codes "as" ≡ name
 as_is name x is named = let k = means (class.Word word.As) x is in sym k.1 ∙ sym (kept_word x k.0) ∙ named.0.1
 
-alias_reads : {name : Option (List ℕ)} {xs ys : List Lexeme} → IsAlias name xs ys → (q : Goal) (sel : Selected) (schema table : List ℕ) → IsTable q sel schema table
+alias_reads : {name : Option (List ℕ)} {xs ys : List Lexeme} → IsAlias name xs ys
+    → (q : Goal) (sel : Selected) (schema table : List ℕ) → IsTable q sel schema table
     → AliasReads q sel schema table name xs ys
 alias_reads g.no_alias q sel schema table is st l s out h = h q is.source
 alias_reads (g.alias {name = name} {x = x} {xs = xs} named) q sel schema table is st l s out h =
     go (table_as sel schema table name (class_of x) x (name_class name x named))
   where
-    go : (class_of x ≡ class.Word word.As) ⊎ (p.after_table sel schema table (Some (class_of x)) x ≡ p.alias_or sel schema table (p.after_source (p.source sel schema table None) (Some (class_of x))) (p.name_next (Some (class_of x)) x))
+    go : (class_of x ≡ class.Word word.As) ⊎ (p.after_table sel schema table (Some
+        (class_of x)) x ≡ p.alias_or sel schema table (p.after_source (p.source sel schema table None) (Some
+        (class_of x))) (p.name_next (Some (class_of x)) x))
         → Reads (x ∷ xs) (state st l (mode.Within s (part.At q))) out
     go (inl same) =
-        leads q x (class.Word word.As) (p.at (goal.As sel schema table)) xs st l s out same (is.by_name (class.Word word.As) x refl)
-        (h (goal.As sel schema table) (subst (λ (n : List ℕ). IsSource (goal.As sel schema table) (p.source sel schema table (Some n))) (as_is name x same named) (as_is_source sel schema table)))
+        leads q x (class.Word word.As) (p.at (goal.As sel schema table)) xs st l s out same (is.by_name
+        (class.Word word.As) x refl)
+        (h (goal.As sel schema table) (subst (λ (n :
+        List ℕ). IsSource (goal.As sel schema table) (p.source sel schema table (Some n)))
+        (as_is name x same named) (as_is_source sel schema table)))
     go (inr to) =
         leads q x (class_of x) (p.at (goal.Aliased (p.source sel schema table (Some name)))) xs st l s out refl
-        (is.by_name (class_of x) x (name_class name x named) ∙ to ∙ alias_goes sel schema table name (p.after_source (p.source sel schema table None) (Some (class_of x))) x named)
-        (h (goal.Aliased (p.source sel schema table (Some name))) (aliased_is_source (p.source sel schema table (Some name))))
+        (is.by_name (class_of x) x (name_class name x named) ∙ to
+        ∙ alias_goes sel schema table name (p.after_source (p.source sel schema table None) (Some
+        (class_of x))) x named)
+        (h (goal.Aliased (p.source sel schema table (Some name))) (aliased_is_source (p.source sel schema table
+        (Some name))))
 alias_reads (g.as_alias {name = name} {x = x} {y = y} {xs = xs} word_as named) q sel schema table is st l s out h =
-    leads q x (class.Word word.As) (p.at (goal.As sel schema table)) (y ∷ xs) st l s out (keyword_class (codes "as") x word_as) (is.by_name (class.Word word.As) x refl)
-    (leads (goal.As sel schema table) y (class_of y) (p.at (goal.Aliased (p.source sel schema table (Some name)))) xs st l s out refl
-    (alias_goes sel schema table name (p.after_source (p.source sel schema table (Some (codes "as"))) (Some (class_of y))) y named)
-    (h (goal.Aliased (p.source sel schema table (Some name))) (aliased_is_source (p.source sel schema table (Some name)))))
+    leads q x (class.Word word.As) (p.at (goal.As sel schema table)) (y ∷ xs) st l s out (keyword_class
+    (codes "as") x word_as) (is.by_name (class.Word word.As) x refl)
+    (leads (goal.As sel schema table) y (class_of y) (p.at (goal.Aliased (p.source sel schema table
+    (Some name)))) xs st l s out refl
+    (alias_goes sel schema table name (p.after_source (p.source sel schema table (Some (codes "as"))) (Some
+    (class_of y))) y named)
+    (h (goal.Aliased (p.source sel schema table (Some name))) (aliased_is_source (p.source sel schema table
+    (Some name)))))
 
-table_reads : {schema table : List ℕ} {xs ys : List Lexeme} → IsTableName IsNameWithin schema table xs ys → (sel : Selected) (st : List Frame) (l : Level) (s : Slot) (out : Expr)
-    → ((k : Goal) → IsTable k sel schema table → Reads ys (state st l (mode.Within s (part.At k))) out) → Reads xs (state st l (mode.Within s (part.At (goal.Table sel)))) out
+table_reads : {schema table : List ℕ} {xs ys : List Lexeme} → IsTableName IsNameWithin schema table xs ys
+    → (sel : Selected) (st : List Frame) (l : Level) (s : Slot) (out : Expr)
+    → ((k : Goal) → IsTable k sel schema table → Reads ys (state st l (mode.Within s (part.At k))) out)
+    → Reads xs (state st l (mode.Within s (part.At (goal.Table sel)))) out
 table_reads (g.in_public {name = name} {x = x} {xs = xs} named) sel st l s out h =
-    leads (goal.Table sel) x (class_of x) (p.at (goal.TableNamed sel name)) xs st l s out refl (by_name_goes (λ n. p.at (goal.TableNamed sel n)) name x named)
+    leads (goal.Table sel) x (class_of x) (p.at (goal.TableNamed sel name)) xs st l s out refl (by_name_goes
+    (λ n. p.at (goal.TableNamed sel n)) name x named)
     (h (goal.TableNamed sel name) (named_is_table sel name))
-table_reads (g.in_schema {schema = schema} {name = name} {x = x} {dot = dot} {y = y} {xs = xs} first is second) sel st l s out h =
-    leads (goal.Table sel) x (class_of x) (p.at (goal.TableNamed sel schema)) (dot ∷ y ∷ xs) st l s out refl (by_name_goes (λ n. p.at (goal.TableNamed sel n)) schema x first)
-    (goes dot (class.Sign sign.Dot) (y ∷ xs) st l (mode.Within s (part.At (goal.TableNamed sel schema))) out (sign_class (codes ".") dot is)
-    (leads (goal.TableDotted sel schema) y (class_of y) (p.at (goal.Alias sel schema name)) xs st l s out refl (by_name_goes (λ n. p.at (goal.Alias sel schema n)) name y second)
+table_reads (g.in_schema {schema = schema} {name = name} {x = x} {dot = dot} {y = y} {xs =
+    xs} first is second) sel st l s out h =
+    leads (goal.Table sel) x (class_of x) (p.at (goal.TableNamed sel schema)) (dot ∷ y ∷ xs) st l s out refl
+    (by_name_goes (λ n. p.at (goal.TableNamed sel n)) schema x first)
+    (goes dot (class.Sign sign.Dot) (y ∷ xs) st l (mode.Within s (part.At (goal.TableNamed sel schema))) out
+    (sign_class (codes ".") dot is)
+    (leads (goal.TableDotted sel schema) y (class_of y) (p.at (goal.Alias sel schema name)) xs st l s out refl
+    (by_name_goes (λ n. p.at (goal.Alias sel schema n)) name y second)
     (h (goal.Alias sel schema name) (alias_is_table sel schema name))))
 
-outside : (b : Bool) (a : To) (go : State → Option Expr) (out : Expr) → b ≡ false → reads_on go a ≡ Some out → reads_on go (m.if_inside b a) ≡ Some out
+outside : (b : Bool) (a : To) (go : State → Option Expr) (out : Expr) → b ≡ false → reads_on go a ≡ Some out
+    → reads_on go (m.if_inside b a) ≡ Some out
 outside true a go out is h = absurd cc
 outside false a go out is h = h
 
 -- where a literal's or a call's first token leads from behind a parenthesis, so that it is a group
 group_at : (c : Class) (x : Lexeme) (go : State → Option Expr) (st : List Frame) (l : Level) (s : Slot) (out : Expr)
-    → reads_on go (want (frame.Group l s ∷ st) fresh slot.First (Some c) x) ≡ Some out → reads_on go (m.after_open st l s (Some c) x) ≡ Some out
+    → reads_on go (want (frame.Group l s ∷ st) fresh slot.First (Some c) x) ≡ Some out
+    → reads_on go (m.after_open st l s (Some c) x) ≡ Some out
 group_at (class.Word word.Select) x go st l s out h = absurd cc
 group_at c x go st l s out h = h
 
 group_reads : (xs : List Lexeme) (st : List Frame) (l : Level) (s : Slot) (out : Expr)
-    → Reads xs (state (frame.Group l s ∷ st) fresh (mode.Want slot.First)) out → Reads xs (state st l (mode.Opened s)) out
+    → Reads xs (state (frame.Group l s ∷ st) fresh (mode.Want slot.First)) out
+    → Reads xs (state st l (mode.Opened s)) out
 group_reads [] st l s out h = absurd cc
 group_reads (x ∷ xs) st l s out h = group_at (class_of x) x (reads step xs) st l s out h
 
 -- a token is answered by its class
-at_class : (f : Option Class → To) (x : Lexeme) (c : Class) (xs : List Lexeme) (out : Expr) → class_of x ≡ c → reads_on (reads step xs) (f (Some c)) ≡ Some out → follow f (x ∷ xs) ≡ Some out
+at_class : (f : Option Class → To) (x : Lexeme) (c : Class) (xs : List Lexeme) (out : Expr) → class_of x ≡ c
+    → reads_on (reads step xs) (f (Some c)) ≡ Some out → follow f (x ∷ xs) ≡ Some out
 at_class f x c xs out is h = subst (λ (d : Class). reads_on (reads step xs) (f (Some d)) ≡ Some out) (sym is) h
 
 mutual
   pub expr_reads : {i : Bool} {e : Expr} {xs ys : List Lexeme} → IsExpr i e xs ys → (st : List Frame) (out : Expr)
-      → inside st ≡ i → Opens st → follow (closed st e) ys ≡ Some out → Reads xs (state st fresh (mode.Want slot.First)) out
-  expr_reads (g.ors c more) st out within opens h = conjunction_reads c st [] out within opens (ors_reads more st out within opens h)
+      → inside st ≡ i → Opens st → follow (closed st e) ys ≡ Some out
+      → Reads xs (state st fresh (mode.Want slot.First)) out
+  expr_reads (g.ors c more) st out within opens h =
+      conjunction_reads c st [] out within opens (ors_reads more st out within opens h)
 
-  ors_reads : {i : Bool} {all : List Expr} {e : Expr} {xs ys : List Lexeme} → Ors i all e xs ys → (st : List Frame) (out : Expr)
+  ors_reads : {i : Bool} {all : List Expr} {e : Expr} {xs ys : List Lexeme} → Ors i all e xs ys
+      → (st : List Frame) (out : Expr)
       → inside st ≡ i → Opens st → follow (closed st e) ys ≡ Some out → follow (after_conjunction st all) xs ≡ Some out
   ors_reads (g.or_end {before = all} {xs = xs}) st out within opens h = conjunction_closed xs st all out h
   ors_reads (g.or_more {before = all} {x = x} {xs = xs} is c more) st out within opens h =
-      at_class (after_conjunction st all) x (class.Word word.Or) xs out (keyword_class (codes "or") x is) (conjunction_reads c st all out within opens (ors_reads more st out within opens h))
+      at_class (after_conjunction st all) x (class.Word word.Or) xs out (keyword_class (codes "or") x is)
+      (conjunction_reads c st all out within opens (ors_reads more st out within opens h))
 
-  conjunction_reads : {i : Bool} {c : Expr} {xs ys : List Lexeme} → IsConjunction i c xs ys → (st : List Frame) (ors : List Expr) (out : Expr)
-      → inside st ≡ i → Opens st → follow (after_conjunction st (ors ++ c ∷ [])) ys ≡ Some out → Reads xs (state st (level ors []) (mode.Want slot.First)) out
+  conjunction_reads : {i : Bool} {c : Expr} {xs ys : List Lexeme} → IsConjunction i c xs ys
+      → (st : List Frame) (ors : List Expr) (out : Expr)
+      → inside st ≡ i → Opens st → follow (after_conjunction st (ors ++ c ∷ [])) ys ≡ Some out
+      → Reads xs (state st (level ors []) (mode.Want slot.First)) out
   conjunction_reads (g.ands {n = n} {ys = ys} first more) st ors out within opens h =
-      negation_reads first st (level ors []) out within (opens_test st ors [] n ys out opens (ands_reads more st ors out within opens h))
+      negation_reads first st (level ors []) out within (opens_test st ors [] n ys out opens
+      (ands_reads more st ors out within opens h))
 
-  ands_reads : {i : Bool} {all : List Expr} {c : Expr} {xs ys : List Lexeme} → Ands i all c xs ys → (st : List Frame) (ors : List Expr) (out : Expr)
-      → inside st ≡ i → Opens st → follow (after_conjunction st (ors ++ c ∷ [])) ys ≡ Some out → follow (after_negation st ors all) xs ≡ Some out
+  ands_reads : {i : Bool} {all : List Expr} {c : Expr} {xs ys : List Lexeme} → Ands i all c xs ys
+      → (st : List Frame) (ors : List Expr) (out : Expr)
+      → inside st ≡ i → Opens st → follow (after_conjunction st (ors ++ c ∷ [])) ys ≡ Some out
+      → follow (after_negation st ors all) xs ≡ Some out
   ands_reads (g.and_end {before = all} {xs = xs}) st ors out within opens h = negation_closed xs st ors all out h
   ands_reads (g.and_more {before = all} {n = n} {x = x} {xs = xs} {ys = ys} is first more) st ors out within opens h =
       at_class (after_negation st ors all) x (class.Word word.And) xs out (keyword_class (codes "and") x is)
-      (negation_reads first st (level ors all) out within (opens_test st ors all n ys out opens (ands_reads more st ors out within opens h)))
+      (negation_reads first st (level ors all) out within (opens_test st ors all n ys out opens
+      (ands_reads more st ors out within opens h)))
 
-  negation_reads : {i : Bool} {n : Expr} {xs ys : List Lexeme} → IsNegation i n xs ys → (st : List Frame) (l : Level) (out : Expr)
+  negation_reads : {i : Bool} {n : Expr} {xs ys : List Lexeme} → IsNegation i n xs ys
+      → (st : List Frame) (l : Level) (out : Expr)
       → inside st ≡ i → follow (after_test st l n) ys ≡ Some out → Reads xs (state st l (mode.Want slot.First)) out
   negation_reads (g.negated {x = x} {xs = xs} is n) st l out within h =
-      goes x (class.Word word.Not) xs st l (mode.Want slot.First) out (keyword_class (codes "not") x is) (negation_reads n (frame.Not l ∷ st) fresh out within h)
+      goes x (class.Word word.Not) xs st l (mode.Want slot.First) out (keyword_class (codes "not") x is)
+      (negation_reads n (frame.Not l ∷ st) fresh out within h)
   negation_reads (g.plain a r t) st l out within h =
       operand_reads a st l slot.First out within (related_reads r st l out within (tested_reads t st l out h))
 
-  related_reads : {i : Bool} {a r : Expr} {xs ys : List Lexeme} → Related i a r xs ys → (st : List Frame) (l : Level) (out : Expr)
+  related_reads : {i : Bool} {a r : Expr} {xs ys : List Lexeme} → Related i a r xs ys
+      → (st : List Frame) (l : Level) (out : Expr)
       → inside st ≡ i → Reads ys (state st l (mode.Related r)) out → Reads xs (state st l (mode.Operand a)) out
   related_reads (g.alone {e = e} {xs = xs}) st l out within h = operand_related xs st l e out h
   related_reads (g.compare {op = op} {a = a} {x = x} {xs = xs} is b) st l out within h =
-      goes x (class.Compared op) xs st l (mode.Operand a) out (comparison_class op x is) (operand_reads b st l (slot.Right op a) out within h)
+      goes x (class.Compared op) xs st l (mode.Operand a) out (comparison_class op x is) (operand_reads b st l
+      (slot.Right op a) out within h)
   related_reads (g.among {a = a} {x = x} {left = left} {xs = xs} is first b more) st l out within h =
       goes x (class.Word word.In) (left ∷ xs) st l (mode.Operand a) out (keyword_class (codes "in") x is)
       (goes left (class.Sign sign.Open) xs st l (mode.In false a) out (sign_class (codes "(") left first)
@@ -373,39 +505,55 @@ mutual
       goes comma (class.Sign sign.Comma) xs st l (mode.Items n a items) out (sign_class (codes ",") comma is)
       (operand_reads b st l (slot.Item n a items) out within (items_reads more st l n a out within h))
 
-  operand_reads : {i : Bool} {v : Expr} {xs ys : List Lexeme} → IsOperand i v xs ys → (st : List Frame) (l : Level) (s : Slot) (out : Expr)
+  operand_reads : {i : Bool} {v : Expr} {xs ys : List Lexeme} → IsOperand i v xs ys
+      → (st : List Frame) (l : Level) (s : Slot) (out : Expr)
       → inside st ≡ i → Reads ys (given st l s v) out → Reads xs (state st l (mode.Want s)) out
   operand_reads (g.constant {l = lit} {ys = ys} is) st l s out within h =
-      literal_reads is st l s out (over_reads (goal.Constant lit) (expr.Literal lit) (constant_over lit) ys st l s out h)
+      literal_reads is st l s out (over_reads (goal.Constant lit) (expr.Literal lit)
+      (constant_over lit) ys st l s out h)
   operand_reads (g.cast {l = lit} {x = x} {ys = ys} is colons typed) st l s out within h =
-      literal_reads is st l s out (goes x (class.Sign sign.Colons) ys st l (mode.Within s (part.At (goal.Constant lit))) out (sign_class (codes "::") x colons) (type_reads typed lit st l s out h))
+      literal_reads is st l s out (goes x (class.Sign sign.Colons) ys st l (mode.Within s (part.At
+      (goal.Constant lit))) out (sign_class (codes "::") x colons) (type_reads typed lit st l s out h))
   operand_reads (g.call is) st l s out within h = call_reads is st l s out h
   operand_reads (g.selected_call {left = left} {x = x} {xs = xs} first is called last) st l s out within h =
       goes left (class.Sign sign.Open) (x ∷ xs) st l (mode.Want s) out (sign_class (codes "(") left first)
-      (goes x (class.Word word.Select) xs st l (mode.Opened s) out (keyword_class (codes "select") x is) (selected_call_reads called last st l s out h))
+      (goes x (class.Word word.Select) xs st l (mode.Opened s) out (keyword_class (codes "select") x is)
+      (selected_call_reads called last st l s out h))
   operand_reads (g.own_column is) st l s out within h = column_reads is st l s out h
-  operand_reads (g.group {e = e} {left = left} {right = right} {xs = xs} {ys = ys} first inner last) st l s out within h =
+  operand_reads (g.group {e = e} {left = left} {right = right} {xs = xs} {ys =
+      ys} first inner last) st l s out within h =
       goes left (class.Sign sign.Open) xs st l (mode.Want s) out (sign_class (codes "(") left first)
       (group_reads xs st l s out (expr_reads inner (frame.Group l s ∷ st) out within tt
-      (at_class (closed (frame.Group l s ∷ st) e) right (class.Sign sign.Close) ys out (sign_class (codes ")") right last) h)))
-  operand_reads (g.exists {s = sel} {schema = schema} {table = table} {name = name} {condition = k} {x = x} {left = left} {select = select} {xs = xs} {us = us} {vs = vs} is first selects chosen from named alias inner last) st l s out within h =
+      (at_class (closed (frame.Group l s ∷ st) e) right (class.Sign sign.Close) ys out (sign_class
+      (codes ")") right last) h)))
+  operand_reads (g.exists {s = sel} {schema = schema} {table = table} {name = name} {condition = k} {x = x} {left =
+      left} {select = select} {xs = xs} {us = us} {vs =
+      vs} is first selects chosen from named alias inner last) st l s out within h =
       goes x (class.Word word.Exists) (left ∷ select ∷ xs) st l (mode.Want s) out (keyword_class (codes "exists") x is)
       (outside (inside st) (m.within st l s p.existing) (reads step (left ∷ select ∷ xs)) out within
-      (goes left (class.Sign sign.Open) (select ∷ xs) st l (mode.Within s p.existing) out (sign_class (codes "(") left first)
-      (goes select (class.Word word.Select) xs st l (mode.Within s (part.One wanted.Select goal.Selects)) out (keyword_class (codes "select") select selects)
+      (goes left (class.Sign sign.Open) (select ∷ xs) st l (mode.Within s p.existing) out (sign_class
+      (codes "(") left first)
+      (goes select (class.Word word.Select) xs st l (mode.Within s (part.One wanted.Select goal.Selects)) out
+      (keyword_class (codes "select") select selects)
       (selected_reads chosen from st l s out
       (table_reads named sel st l s out (λ q is_table. alias_reads alias q sel schema table is_table st l s out
       (λ d is_source. where_reads inner d (p.source sel schema table name) is_source last st l s out within h)))))))
 
-  where_reads : {k : Option Expr} {right : Lexeme} {us vs : List Lexeme} → Where k us (right ∷ vs) → (q : Goal) (r : Source) → IsSource q r → IsSign (codes ")") right
-      → (st : List Frame) (l : Level) (s : Slot) (out : Expr) → inside st ≡ false → Reads vs (given st l s (p.exists_of r k)) out → Reads us (state st l (mode.Within s (part.At q))) out
+  where_reads : {k : Option Expr} {right : Lexeme} {us vs : List Lexeme} → Where k us (right ∷ vs)
+      → (q : Goal) (r : Source) → IsSource q r → IsSign (codes ")") right
+      → (st : List Frame) (l : Level) (s : Slot) (out : Expr) → inside st ≡ false
+      → Reads vs (given st l s (p.exists_of r k)) out → Reads us (state st l (mode.Within s (part.At q))) out
   where_reads {right = right} {vs = vs} g.no_where q r is last st l s out within h =
-      leads q right (class.Sign sign.Close) (moved.Done (p.exists_of r None)) vs st l s out (sign_class (codes ")") right last) (is.by_close right) h
-  where_reads {right = right} {vs = vs} (g.where_ {e = e} {x = x} {xs = xs} where_ inner) q r is last st l s out within h =
-      leads q x (class.Word word.Where) (moved.Condition r) xs st l s out (keyword_class (codes "where") x where_) (is.by_where x)
+      leads q right (class.Sign sign.Close) (moved.Done (p.exists_of r None)) vs st l s out (sign_class
+      (codes ")") right last) (is.by_close right) h
+  where_reads {right = right} {vs = vs} (g.where_ {e = e} {x = x} {xs =
+      xs} where_ inner) q r is last st l s out within h =
+      leads q x (class.Word word.Where) (moved.Condition r) xs st l s out (keyword_class (codes "where") x where_)
+      (is.by_where x)
       (outside (inside st) (m.wanting (frame.Where l s r ∷ st) fresh slot.First) (reads step xs) out within
       (expr_reads inner (frame.Where l s r ∷ st) out refl tt
-      (at_class (closed (frame.Where l s r ∷ st) e) right (class.Sign sign.Close) vs out (sign_class (codes ")") right last) h)))
+      (at_class (closed (frame.Where l s r ∷ st) e) right (class.Sign sign.Close) vs out (sign_class
+      (codes ")") right last) h)))
 
 pub written_reads : (xs : List Lexeme) (e : Expr) → g.Written e xs → reads step xs start ≡ Some e
 written_reads xs e h = expr_reads h [] e refl tt refl

@@ -1,15 +1,20 @@
 -- Within an operand: what was read stands so in the grammar, a step back over a token.
-use Rattle.std.proofs.Common.{◌≡◌, ℕ, ◌⊎◌, inl, inr, Bool, true, false, cond, List, [], ◌∷◌, ◌++◌, codes, Option, Some, None, refl, ap, subst, sym, ◌∙◌}
+use Rattle.std.proofs.Common.{◌≡◌, ℕ, ◌⊎◌, inl, inr, Bool, true, false, cond, List, [], ◌∷◌, ◌++◌, codes, Option}
+use Rattle.std.proofs.Common.{Some, None, refl, ap, subst, sym, ◌∙◌}
 use Rattle.std.specs.Str.{bytes_eq}
 use Rattle.std.proofs.lemmas.Slice.Eq.{bytes_eq-Decides}
 use Rattle.rt_value.proofs.Places.{seen}
 use Rattle.rt_sql.specs.Lexeme.{Lexeme, IsKeyword, IsSign, kept_name, content}
 use Rattle.rt_policy.specs.Grammar as g
-use Rattle.rt_policy.specs.Grammar.{IsText, IsNumber, IsNameWithin, Keywords, Length, Lengths, Brackets, IsType, IsTableName, IsSelected, IsAlias, IsExpr, Where}
+use Rattle.rt_policy.specs.Grammar.{IsText, IsNumber, IsNameWithin, Keywords, Length, Lengths, Brackets, IsType}
+use Rattle.rt_policy.specs.Grammar.{IsTableName, IsSelected, IsAlias, IsExpr, Where}
 use Rattle.rt_policy.specs.Words.{class_of, is_name}
 use Rattle.rt_policy.specs.Parts as p
 use Rattle.rt_policy.proofs.Classes.{means, name_of, keyword_name}
-use Rattle.rt_policy.proofs.Rest.{After, Is, CastTail, ConstantTail, NamedTail, TypeTail, BracketsTail, LengthsTail, EndTail, ClaimTail, CalledTail, CallTail, FunctionTail, DottedTail, SourceTail, AliasTail, AsTail, TableDottedTail, TableNamedTail, TableTail, FromTail, SelectsDottedTail, SelectsTail, GoalTail, Met, PartTail}
+use Rattle.rt_policy.proofs.Rest.{After, Is, CastTail, ConstantTail, NamedTail, TypeTail, BracketsTail, LengthsTail}
+use Rattle.rt_policy.proofs.Rest.{EndTail, ClaimTail, CalledTail, CallTail, FunctionTail, DottedTail, SourceTail}
+use Rattle.rt_policy.proofs.Rest.{AliasTail, AsTail, TableDottedTail, TableNamedTail, TableTail, FromTail}
+use Rattle.rt_policy.proofs.Rest.{SelectsDottedTail, SelectsTail, GoalTail, Met, PartTail}
 use Rattle.rt_policy.specs.declared.words.Word.{Word}
 use Rattle.rt_policy.specs.declared.words.Word.TheVariants as word
 use Rattle.rt_policy.specs.declared.words.Sign.TheVariants as sign
@@ -45,116 +50,193 @@ Leads (moved.Done v) None e zs ys = ⊥
 Leads (moved.Done v) (Some x) e zs ys = Is v e zs ys
 Leads (moved.Over v) look e zs ys = Is v e (seen look zs) ys
 Leads (moved.Condition r) None e zs ys = ⊥
-Leads (moved.Condition r) (Some x) e zs ys = (d : Expr) × (right : Lexeme) × IsExpr true d zs (right ∷ ys) × IsSign (codes ")") right × (e ≡ p.exists_of r (Some d))
+Leads (moved.Condition r) (Some x) e zs ys = (d : Expr) × (right : Lexeme) × IsExpr true d zs (right ∷ ys)
+    × IsSign (codes ")") right × (e ≡ p.exists_of r (Some d))
 Leads moved.Bad look e zs ys = ⊥
 
 abbrev Step : Moved → Lexeme → Expr → List Lexeme → List Lexeme → Type 0
 Step m x e zs ys = Leads m (Some x) e zs ys
 
-constant_found : (l : Literal) (c : Class) (x : Lexeme) (e : Expr) (zs ys : List Lexeme) → class_of x ≡ c → Step (p.after_constant l (Some c)) x e zs ys → ConstantTail l e (x ∷ zs) ys
+constant_found : (l : Literal) (c : Class) (x : Lexeme) (e : Expr) (zs ys : List Lexeme) → class_of x ≡ c
+    → Step (p.after_constant l (Some c)) x e zs ys → ConstantTail l e (x ∷ zs) ys
 constant_found l (class.Sign sign.Colons) x e zs ys is h = inr (x, zs, refl, means (class.Sign sign.Colons) x is, h)
 constant_found l _ x e zs ys is h = inl h
 
-minus_found : (c : Class) (x : Lexeme) (e : Expr) (zs ys : List Lexeme) → class_of x ≡ c → Step (p.after_minus (Some c) x) x e zs ys → GoalTail goal.Minus e (x ∷ zs) ys
+minus_found : (c : Class) (x : Lexeme) (e : Expr) (zs ys : List Lexeme) → class_of x ≡ c
+    → Step (p.after_minus (Some c) x) x e zs ys → GoalTail goal.Minus e (x ∷ zs) ys
 minus_found class.Number x e zs ys is h = (x.bytes, (x, zs, refl, (means class.Number x is, refl), h))
 minus_found _ x e zs ys is h = absurd h
 
 -- where a name leads on: what is behind it, by any Q
-by_name_found : (Q : List ℕ → List Lexeme → Type 0) (on : List ℕ → Moved) (c : Class) (x : Lexeme) (e : Expr) (zs ys : List Lexeme) → class_of x ≡ c
-    → ((n : List ℕ) → Step (on n) x e zs ys → Q n zs) → Step (p.by_name on (p.name_next (Some c) x)) x e zs ys → (name : List ℕ) × After (IsNameWithin name) (Q name) (x ∷ zs)
+by_name_found : (Q : List ℕ → List Lexeme → Type 0) (on : List ℕ
+    → Moved) (c : Class) (x : Lexeme) (e : Expr) (zs ys : List Lexeme) → class_of x ≡ c
+    → ((n : List ℕ) → Step (on n) x e zs ys → Q n zs) → Step (p.by_name on (p.name_next (Some c) x)) x e zs ys
+    → (name : List ℕ) × After (IsNameWithin name) (Q name) (x ∷ zs)
 by_name_found Q on c x e zs ys is leads h = go (is_name c) refl h
   where
-    go : (b : Bool) → is_name c ≡ b → Step (p.by_name on (p.name_if b x)) x e zs ys → (name : List ℕ) × After (IsNameWithin name) (Q name) (x ∷ zs)
+    go : (b : Bool) → is_name c ≡ b → Step (p.by_name on (p.name_if b x)) x e zs ys → (name : List ℕ)
+        × After (IsNameWithin name) (Q name) (x ∷ zs)
     go true named h = (kept_name x, (x, zs, refl, name_of c x is named, leads (kept_name x) h))
     go false unnamed h = absurd h
 
 -- Types
 
-zoned_found : (with : List ℕ) (w : Word) (l : Literal) (t : TypeName) (x : Lexeme) (e : Expr) (zs ys : List Lexeme) → IsKeyword with x
-    → Step (p.zoned l t) x e zs ys → Keywords (with ∷ codes "time" ∷ codes "zone" ∷ []) (x ∷ zs) ys × (e ≡ expr.Cast l t)
+zoned_found : (with : List ℕ) (w : Word) (l : Literal) (t : TypeName) (x : Lexeme) (e : Expr) (zs ys : List Lexeme)
+    → IsKeyword with x
+    → Step (p.zoned l t) x e zs ys → Keywords (with ∷ codes "time" ∷ codes "zone" ∷ []) (x ∷ zs) ys
+    × (e ≡ expr.Cast l t)
 zoned_found with w l t x e zs ys first (a, us, at_a, is_a, (b, vs, at_b, is_b, (made, same))) =
     let all : Keywords (with ∷ codes "time" ∷ codes "zone" ∷ []) (x ∷ a ∷ b ∷ vs) vs =
-    g.keyword first (g.keyword (means (class.Word word.Time) a is_a) (g.keyword (means (class.Word word.Zone) b is_b) g.no_keyword)) in (
-      subst (λ (qs : List Lexeme). Keywords (with ∷ codes "time" ∷ codes "zone" ∷ []) (x ∷ qs) ys) (sym (at_a ∙ ap (λ (qs : List Lexeme). a ∷ qs) at_b))
-          (subst (λ (qs : List Lexeme). Keywords (with ∷ codes "time" ∷ codes "zone" ∷ []) (x ∷ a ∷ b ∷ vs) qs) same all),
+    g.keyword first (g.keyword (means (class.Word word.Time) a is_a) (g.keyword (means
+    (class.Word word.Zone) b is_b) g.no_keyword)) in (
+      subst (λ (qs : List Lexeme). Keywords (with ∷ codes "time" ∷ codes "zone" ∷ []) (x ∷ qs) ys) (sym (at_a
+          ∙ ap (λ (qs : List Lexeme). a ∷ qs) at_b))
+          (subst (λ (qs : List Lexeme). Keywords (with ∷ codes "time" ∷ codes "zone" ∷ [])
+          (x ∷ a ∷ b ∷ vs) qs) same all),
       made,
     )
 
 numbers_found : (l : Literal) (name : List ℕ) (c : Class) (x : Lexeme) (e : Expr) (zs ys : List Lexeme) → class_of x ≡ c
     → Step (p.after_numbers l name (Some c)) x e zs ys → BracketsTail l name e (x ∷ zs) ys
 numbers_found l name (class.Sign sign.LeftBracket) x e zs ys is (b, us, at, is_b, (made, same)) =
-    let all : Brackets true (x ∷ b ∷ us) us = g.brackets (means (class.Sign sign.LeftBracket) x is) (means (class.Sign sign.RightBracket) b is_b) in
-    (true, subst (λ (qs : List Lexeme). Brackets true (x ∷ qs) ys) (sym at) (subst (λ (qs : List Lexeme). Brackets true (x ∷ b ∷ us) qs) same all), made)
-numbers_found l name _ x e zs ys is h = (false, subst (λ (qs : List Lexeme). Brackets false (x ∷ zs) qs) h.1 g.no_brackets, h.0)
+    let all : Brackets true (x ∷ b ∷ us) us =
+    g.brackets (means (class.Sign sign.LeftBracket) x is) (means (class.Sign sign.RightBracket) b is_b) in (
+      true,
+      subst (λ (qs : List Lexeme). Brackets true (x ∷ qs) ys) (sym at) (subst (λ (qs :
+          List Lexeme). Brackets true (x ∷ b ∷ us) qs) same all),
+      made,
+    )
+numbers_found l name _ x e zs ys is h =
+    (false, subst (λ (qs : List Lexeme). Brackets false (x ∷ zs) qs) h.1 g.no_brackets, h.0)
 
 abbrev NamedCast : Literal → List ℕ → Expr → List Lexeme → List Lexeme → Type 0
 NamedCast l name e zs ys = (t : TypeName) × NamedTail name t zs ys × (e ≡ expr.Cast l t)
 
-without_lengths : (l : Literal) (name : List ℕ) (e : Expr) (zs ys : List Lexeme) → BracketsTail l name e zs ys → NamedCast l name e zs ys
-without_lengths l name e zs ys (array, more, made) = (type_name.Named name array, (zs, array, g.one_length g.no_length, more, refl), made)
+without_lengths : (l : Literal) (name : List ℕ) (e : Expr) (zs ys : List Lexeme) → BracketsTail l name e zs ys
+    → NamedCast l name e zs ys
+without_lengths l name e zs ys (array, more, made) =
+    (type_name.Named name array, (zs, array, g.one_length g.no_length, more, refl), made)
 
-lengths_found : (left n : Lexeme) (digits : List ℕ) (zs us : List Lexeme) → IsSign (codes "(") left → IsNumber digits n → LengthsTail zs us → Lengths (left ∷ n ∷ zs) us
+lengths_found : (left n : Lexeme) (digits : List ℕ) (zs us : List Lexeme) → IsSign (codes "(") left
+    → IsNumber digits n → LengthsTail zs us → Lengths (left ∷ n ∷ zs) us
 lengths_found left n digits zs us first number (inl (right, vs, at, last, same)) =
     subst (λ (qs : List Lexeme). Lengths (left ∷ n ∷ qs) us) (sym at)
     (subst (λ (qs : List Lexeme). Lengths (left ∷ n ∷ right ∷ vs) qs) same (g.one_length (g.length first number last)))
-lengths_found left n digits zs us first number (inr (comma, vs, at, is_comma, (more, (m, ws, at_m, is_m, (right, qs, at_r, last, same))))) =
-    subst (λ (rs : List Lexeme). Lengths (left ∷ n ∷ rs) us) (sym (at ∙ ap (λ (rs : List Lexeme). comma ∷ rs) (at_m ∙ ap (λ (rs : List Lexeme). m ∷ rs) at_r)))
-    (subst (λ (rs : List Lexeme). Lengths (left ∷ n ∷ comma ∷ m ∷ right ∷ qs) rs) same (g.two_lengths first number is_comma is_m last))
+lengths_found left n digits zs us first number (inr (
+  comma,
+  vs,
+  at,
+  is_comma,
+  (
+    more,
+    (
+      m,
+      ws,
+      at_m,
+      is_m,
+      (right, qs, at_r, last, same),
+    ),
+  ),
+)) =
+    subst (λ (rs : List Lexeme). Lengths (left ∷ n ∷ rs) us) (sym (at ∙ ap (λ (rs : List Lexeme). comma ∷ rs) (at_m
+    ∙ ap (λ (rs : List Lexeme). m ∷ rs) at_r)))
+    (subst (λ (rs : List Lexeme). Lengths (left ∷ n ∷ comma ∷ m ∷ right ∷ qs) rs) same
+    (g.two_lengths first number is_comma is_m last))
 
-name_of_type_found : (l : Literal) (name : List ℕ) (c : Class) (x : Lexeme) (e : Expr) (zs ys : List Lexeme) → class_of x ≡ c
+name_of_type_found : (l : Literal) (name : List ℕ) (c : Class) (x : Lexeme) (e : Expr) (zs ys : List Lexeme)
+    → class_of x ≡ c
     → Step (p.after_name_of_type l name (Some c)) x e zs ys → NamedCast l name e (x ∷ zs) ys
 name_of_type_found l name (class.Sign sign.Open) x e zs ys is (n, us, at, is_n, (vs, lengths, (array, more, made))) = (
   type_name.Named name array,
-  (vs, array, subst (λ (qs : List Lexeme). Lengths (x ∷ qs) vs) (sym at) (lengths_found x n n.bytes us vs (means (class.Sign sign.Open) x is) (means class.Number n is_n, refl) lengths), more, refl),
+  (
+    vs,
+    array,
+    subst (λ (qs :
+        List Lexeme). Lengths (x ∷ qs) vs) (sym at) (lengths_found x n n.bytes us vs (means (class.Sign sign.Open) x is)
+        (means class.Number n is_n, refl) lengths),
+    more,
+    refl,
+  ),
   made,
 )
-name_of_type_found l name c x e zs ys is h = without_lengths l name e (x ∷ zs) ys (numbers_found l name c x e zs ys is h)
+name_of_type_found l name c x e zs ys is h =
+    without_lengths l name e (x ∷ zs) ys (numbers_found l name c x e zs ys is h)
 
 varying_found : (l : Literal) (c : Class) (x : Lexeme) (e : Expr) (zs ys : List Lexeme) → class_of x ≡ c
     → Step (p.after_varying l (Some c)) x e zs ys → Length (x ∷ zs) ys × (e ≡ expr.Cast l type_name.CharacterVarying)
 varying_found l (class.Sign sign.Open) x e zs ys is (n, us, at, is_n, (right, vs, at_r, is_r, (made, same))) =
-    let all : Length (x ∷ n ∷ right ∷ vs) vs = g.length (means (class.Sign sign.Open) x is) (means class.Number n is_n, refl) (means (class.Sign sign.Close) right is_r) in
-    (subst (λ (qs : List Lexeme). Length (x ∷ qs) ys) (sym (at ∙ ap (λ (qs : List Lexeme). n ∷ qs) at_r)) (subst (λ (qs : List Lexeme). Length (x ∷ n ∷ right ∷ vs) qs) same all), made)
+    let all : Length (x ∷ n ∷ right ∷ vs) vs =
+    g.length (means (class.Sign sign.Open) x is) (means class.Number n is_n, refl) (means
+    (class.Sign sign.Close) right is_r) in (
+      subst (λ (qs : List Lexeme). Length (x ∷ qs) ys) (sym (at
+          ∙ ap (λ (qs : List Lexeme). n ∷ qs) at_r)) (subst (λ (qs :
+          List Lexeme). Length (x ∷ n ∷ right ∷ vs) qs) same all),
+      made,
+    )
 varying_found l _ x e zs ys is h = (subst (λ (qs : List Lexeme). Length (x ∷ zs) qs) h.1 g.no_length, h.0)
 
 abbrev TypedCast : Literal → Head → List ℕ → Expr → List Lexeme → List Lexeme → Type 0
 TypedCast l h name e zs ys = (t : TypeName) × TypeTail h name t zs ys × (e ≡ expr.Cast l t)
 
-timestamp_named : (l : Literal) (name : List ℕ) (e : Expr) (zs ys : List Lexeme) → NamedCast l name e zs ys → TypedCast l head.Timestamp name e zs ys
+timestamp_named : (l : Literal) (name : List ℕ) (e : Expr) (zs ys : List Lexeme) → NamedCast l name e zs ys
+    → TypedCast l head.Timestamp name e zs ys
 timestamp_named l name e zs ys (t, more, made) = (t, inl more, made)
 
-double_named : (l : Literal) (name : List ℕ) (e : Expr) (zs ys : List Lexeme) → NamedCast l name e zs ys → TypedCast l head.Double name e zs ys
+double_named : (l : Literal) (name : List ℕ) (e : Expr) (zs ys : List Lexeme) → NamedCast l name e zs ys
+    → TypedCast l head.Double name e zs ys
 double_named l name e zs ys (t, more, made) = (t, inl more, made)
 
-character_named : (l : Literal) (name : List ℕ) (e : Expr) (zs ys : List Lexeme) → NamedCast l name e zs ys → TypedCast l head.Character name e zs ys
+character_named : (l : Literal) (name : List ℕ) (e : Expr) (zs ys : List Lexeme) → NamedCast l name e zs ys
+    → TypedCast l head.Character name e zs ys
 character_named l name e zs ys (t, more, made) = (t, inl more, made)
 
-timestamp_found : (l : Literal) (name : List ℕ) (c : Class) (x : Lexeme) (e : Expr) (zs ys : List Lexeme) → class_of x ≡ c
+timestamp_found : (l : Literal) (name : List ℕ) (c : Class) (x : Lexeme) (e : Expr) (zs ys : List Lexeme)
+    → class_of x ≡ c
     → Step (p.after_timestamp l name (Some c)) x e zs ys → TypedCast l head.Timestamp name e (x ∷ zs) ys
 timestamp_found l name (class.Word word.With) x e zs ys is h =
-    let z = zoned_found (codes "with") word.With l type_name.TimestampWithTimeZone x e zs ys (means (class.Word word.With) x is) h in
+    let z = zoned_found (codes "with") word.With l type_name.TimestampWithTimeZone x e zs ys (means
+    (class.Word word.With) x is) h in
     (type_name.TimestampWithTimeZone, inr (inl (refl, z.0)), z.1)
 timestamp_found l name (class.Word word.Without) x e zs ys is h =
-    let z = zoned_found (codes "without") word.Without l type_name.TimestampWithoutTimeZone x e zs ys (means (class.Word word.Without) x is) h in
+    let z = zoned_found (codes "without") word.Without l type_name.TimestampWithoutTimeZone x e zs ys (means
+    (class.Word word.Without) x is) h in
     (type_name.TimestampWithoutTimeZone, inr (inr (refl, z.0)), z.1)
-timestamp_found l name c x e zs ys is h = timestamp_named l name e (x ∷ zs) ys (name_of_type_found l name c x e zs ys is h)
+timestamp_found l name c x e zs ys is h =
+    timestamp_named l name e (x ∷ zs) ys (name_of_type_found l name c x e zs ys is h)
 
 double_found : (l : Literal) (name : List ℕ) (c : Class) (x : Lexeme) (e : Expr) (zs ys : List Lexeme) → class_of x ≡ c
     → Step (p.after_double l name (Some c)) x e zs ys → TypedCast l head.Double name e (x ∷ zs) ys
 double_found l name (class.Word word.Precision) x e zs ys is (made, same) = (
   type_name.DoublePrecision,
-  inr (refl, subst (λ (qs : List Lexeme). Keywords (codes "precision" ∷ []) (x ∷ zs) qs) same (g.keyword (means (class.Word word.Precision) x is) g.no_keyword)),
+  inr (
+    refl,
+    subst (λ (qs :
+        List Lexeme). Keywords (codes "precision" ∷ []) (x ∷ zs) qs) same (g.keyword (means
+        (class.Word word.Precision) x is) g.no_keyword),
+  ),
   made,
 )
 double_found l name c x e zs ys is h = double_named l name e (x ∷ zs) ys (name_of_type_found l name c x e zs ys is h)
 
-character_found : (l : Literal) (name : List ℕ) (c : Class) (x : Lexeme) (e : Expr) (zs ys : List Lexeme) → class_of x ≡ c
+character_found : (l : Literal) (name : List ℕ) (c : Class) (x : Lexeme) (e : Expr) (zs ys : List Lexeme)
+    → class_of x ≡ c
     → Step (p.after_character l name (Some c)) x e zs ys → TypedCast l head.Character name e (x ∷ zs) ys
-character_found l name (class.Word word.Varying) x e zs ys is (more, made) =
-    (type_name.CharacterVarying, inr (zs, refl, g.keyword (means (class.Word word.Varying) x is) g.no_keyword, more), made)
-character_found l name c x e zs ys is h = character_named l name e (x ∷ zs) ys (name_of_type_found l name c x e zs ys is h)
+character_found l name (class.Word word.Varying) x e zs ys is (more, made) = (
+  type_name.CharacterVarying,
+  inr (
+    zs,
+    refl,
+    g.keyword (means
+        (class.Word word.Varying) x is) g.no_keyword,
+    more,
+  ),
+  made,
+)
+character_found l name c x e zs ys is h =
+    character_named l name e (x ∷ zs) ys (name_of_type_found l name c x e zs ys is h)
 
-type_word_found : (l : Literal) (h : Head) (name : List ℕ) (c : Class) (x : Lexeme) (e : Expr) (zs ys : List Lexeme) → class_of x ≡ c
+type_word_found : (l : Literal) (h : Head) (name : List ℕ) (c : Class) (x : Lexeme) (e : Expr) (zs ys : List Lexeme)
+    → class_of x ≡ c
     → Step (p.after_type_word l h name (Some c)) x e zs ys → TypedCast l h name e (x ∷ zs) ys
 type_word_found l head.Timestamp name c x e zs ys is k = timestamp_found l name c x e zs ys is k
 type_word_found l head.Double name c x e zs ys is k = double_found l name c x e zs ys is k
@@ -163,7 +245,8 @@ type_word_found l head.Other name c x e zs ys is k = name_of_type_found l name c
 
 -- a type whose first token is read
 typed : (h : Head) (name : List ℕ) (x : Lexeme) (t : TypeName) (zs ys : List Lexeme) → IsNameWithin name x
-    → (h ≡ head.Timestamp → IsKeyword (codes "timestamp") x) → (h ≡ head.Double → IsKeyword (codes "double") x) → (h ≡ head.Character → IsKeyword (codes "character") x)
+    → (h ≡ head.Timestamp → IsKeyword (codes "timestamp") x) → (h ≡ head.Double → IsKeyword (codes "double") x)
+    → (h ≡ head.Character → IsKeyword (codes "character") x)
     → TypeTail h name t zs ys → IsType IsNameWithin t (x ∷ zs) ys
 typed head.Timestamp name x t zs ys named a b c (inl (us, array, lengths, more, made)) =
     subst (λ (v : TypeName). IsType IsNameWithin v (x ∷ zs) ys) (sym made) (g.named named lengths more)
@@ -188,20 +271,27 @@ keyword_of_head head.Double = codes "double"
 keyword_of_head head.Character = codes "character"
 keyword_of_head head.Other = []
 
-head_keyword : (c : Class) (x : Lexeme) (h : Head) → class_of x ≡ c → p.head_of (p.word_in c) ≡ h → (h ≡ head.Other → ⊥) → IsKeyword (keyword_of_head h) x
-head_keyword (class.Word word.Timestamp) x h is at other = subst (λ (v : Head). IsKeyword (keyword_of_head v) x) at (means (class.Word word.Timestamp) x is)
-head_keyword (class.Word word.Double) x h is at other = subst (λ (v : Head). IsKeyword (keyword_of_head v) x) at (means (class.Word word.Double) x is)
-head_keyword (class.Word word.Character) x h is at other = subst (λ (v : Head). IsKeyword (keyword_of_head v) x) at (means (class.Word word.Character) x is)
+head_keyword : (c : Class) (x : Lexeme) (h : Head) → class_of x ≡ c → p.head_of (p.word_in c) ≡ h → (h ≡ head.Other
+    → ⊥) → IsKeyword (keyword_of_head h) x
+head_keyword (class.Word word.Timestamp) x h is at other =
+    subst (λ (v : Head). IsKeyword (keyword_of_head v) x) at (means (class.Word word.Timestamp) x is)
+head_keyword (class.Word word.Double) x h is at other =
+    subst (λ (v : Head). IsKeyword (keyword_of_head v) x) at (means (class.Word word.Double) x is)
+head_keyword (class.Word word.Character) x h is at other =
+    subst (λ (v : Head). IsKeyword (keyword_of_head v) x) at (means (class.Word word.Character) x is)
 head_keyword _ x h is at other = absurd (other (sym at))
 
-cast_found : (l : Literal) (c : Class) (x : Lexeme) (e : Expr) (zs ys : List Lexeme) → class_of x ≡ c → Step (p.after_cast l (Some c) x) x e zs ys → CastTail l e (x ∷ zs) ys
+cast_found : (l : Literal) (c : Class) (x : Lexeme) (e : Expr) (zs ys : List Lexeme) → class_of x ≡ c
+    → Step (p.after_cast l (Some c) x) x e zs ys → CastTail l e (x ∷ zs) ys
 cast_found l c x e zs ys is h = go (is_name c) refl h
   where
-    go : (b : Bool) → is_name c ≡ b → Step (p.by_name (λ name. p.at (goal.TypeWord l (p.head_of (p.word_in c)) name)) (p.name_if b x)) x e zs ys → CastTail l e (x ∷ zs) ys
+    go : (b : Bool) → is_name c ≡ b → Step (p.by_name (λ name. p.at (goal.TypeWord l (p.head_of (p.word_in c)) name))
+        (p.name_if b x)) x e zs ys → CastTail l e (x ∷ zs) ys
     go true named (t, more, made) = (
       t,
       typed (p.head_of (p.word_in c)) (kept_name x) x t zs ys (name_of c x is named)
-          (λ q. head_keyword c x head.Timestamp is q (λ o. absurd cc)) (λ q. head_keyword c x head.Double is q (λ o. absurd cc)) (λ q. head_keyword c x head.Character is q (λ o. absurd cc)) more,
+          (λ q. head_keyword c x head.Timestamp is q (λ o. absurd cc)) (λ q. head_keyword c x head.Double is q
+          (λ o. absurd cc)) (λ q. head_keyword c x head.Character is q (λ o. absurd cc)) more,
       made,
     )
     go false unnamed h = absurd h
@@ -210,10 +300,26 @@ length_found : (l : Literal) (name : List ℕ) (c : Class) (x : Lexeme) (e : Exp
     → Step (p.after_length l name (Some c)) x e zs ys → GoalTail (goal.Length l name) e (x ∷ zs) ys
 length_found l name (class.Sign sign.Comma) x e zs ys is (n, us, at, is_n, (right, vs, at_r, is_r, more)) = (
   vs,
-  inr (x, zs, refl, means (class.Sign sign.Comma) x is, (n.bytes, (n, us, at, (means class.Number n is_n, refl), (right, vs, at_r, means (class.Sign sign.Close) right is_r, refl)))),
+  inr (
+    x,
+    zs,
+    refl,
+    means (class.Sign sign.Comma) x is,
+    (
+      n.bytes,
+      (
+        n,
+        us,
+        at,
+        (means class.Number n is_n, refl),
+        (right, vs, at_r, means (class.Sign sign.Close) right is_r, refl),
+      ),
+    ),
+  ),
   more,
 )
-length_found l name (class.Sign sign.Close) x e zs ys is more = (zs, inl (x, zs, refl, means (class.Sign sign.Close) x is, refl), more)
+length_found l name (class.Sign sign.Close) x e zs ys is more =
+    (zs, inl (x, zs, refl, means (class.Sign sign.Close) x is, refl), more)
 length_found l name _ x e zs ys is h = absurd h
 
 -- Columns and calls
@@ -223,7 +329,8 @@ name_found : (auth : Bool) (name : List ℕ) (c : Class) (x : Lexeme) (e : Expr)
 name_found auth name (class.Sign sign.Dot) x e zs ys is h = inr (x, zs, refl, means (class.Sign sign.Dot) x is, h)
 name_found auth name _ x e zs ys is h = inl h
 
-pub function_keyword : (c : Class) (x : Lexeme) (f : Function) → class_of x ≡ c → p.function_of (p.word_in c) ≡ Some f → IsKeyword (p.function_text f) x
+pub function_keyword : (c : Class) (x : Lexeme) (f : Function) → class_of x ≡ c
+    → p.function_of (p.word_in c) ≡ Some f → IsKeyword (p.function_text f) x
 function_keyword (class.Word word.Uid) x function.Uid is at = means (class.Word word.Uid) x is
 function_keyword (class.Word word.Role) x function.Role is at = means (class.Word word.Role) x is
 function_keyword (class.Word word.Jwt) x function.Jwt is at = means (class.Word word.Jwt) x is
@@ -234,85 +341,168 @@ called_name function.Uid x h = keyword_name (codes "uid") x refl h
 called_name function.Role x h = keyword_name (codes "role") x refl h
 called_name function.Jwt x h = keyword_name (codes "jwt") x refl h
 
-dot_found : (auth : Bool) (qualifier : List ℕ) (c : Class) (x : Lexeme) (e : Expr) (zs ys : List Lexeme) → class_of x ≡ c
+dot_found : (auth : Bool) (qualifier : List ℕ) (c : Class) (x : Lexeme) (e : Expr) (zs ys : List Lexeme)
+    → class_of x ≡ c
     → Step (p.after_dot auth qualifier (Some c) x) x e zs ys → DottedTail auth qualifier e (x ∷ zs) ys
 dot_found auth qualifier c x e zs ys is h = go auth (p.called auth (p.word_in c)) refl h
   where
     go : (a : Bool) (f : Option Function) → p.called a (p.word_in c) ≡ f
-        → Step (p.called_or qualifier f (p.by_name (λ name. moved.Done (expr.Column (Some qualifier) name)) (p.name_next (Some c) x))) x e zs ys → DottedTail a qualifier e (x ∷ zs) ys
-    go a None at h = inl (by_name_found (λ name us. Is (expr.Column (Some qualifier) name) e us ys) (λ name. moved.Done (expr.Column (Some qualifier) name)) c x e zs ys is (λ n k. k) h)
+        → Step (p.called_or qualifier f (p.by_name (λ name. moved.Done (expr.Column (Some qualifier) name))
+        (p.name_next (Some c) x))) x e zs ys → DottedTail a qualifier e (x ∷ zs) ys
+    go a None at h = inl (by_name_found (λ name us. Is (expr.Column (Some qualifier) name) e us ys)
+        (λ name. moved.Done (expr.Column (Some qualifier) name)) c x e zs ys is (λ n k. k) h)
     go true (Some f) at (inl (made, same)) =
         inl (p.function_text f, (x, zs, refl, called_name f x (function_keyword c x f is at), (made, same)))
     go true (Some f) at (inr call) = inr (refl, (f, (x, zs, refl, function_keyword c x f is at, call)))
     go false (Some f) at h = absurd cc
 
-call_found : (f : Function) (x : Lexeme) (e : Expr) (zs ys : List Lexeme) → IsSign (codes "(") x → PartTail (p.call_part f) e zs ys → CallTail false f e (x ∷ zs) ys
-call_found function.Uid x e zs ys left (right, us, at, is_r, h) = (x, zs, refl, left, (right, us, at, means (class.Sign sign.Close) right is_r, h))
-call_found function.Role x e zs ys left (right, us, at, is_r, h) = (x, zs, refl, left, (right, us, at, means (class.Sign sign.Close) right is_r, h))
-call_found function.Jwt x e zs ys left (right, us, at, is_r, (arrow, vs, at_a, is_a, h)) =
-    (x, zs, refl, left, (right, us, at, means (class.Sign sign.Close) right is_r, (arrow, vs, at_a, means (class.Sign sign.Arrow) arrow is_a, h)))
+call_found : (f : Function) (x : Lexeme) (e : Expr) (zs ys : List Lexeme) → IsSign (codes "(") x
+    → PartTail (p.call_part f) e zs ys → CallTail false f e (x ∷ zs) ys
+call_found function.Uid x e zs ys left (right, us, at, is_r, h) =
+    (x, zs, refl, left, (right, us, at, means (class.Sign sign.Close) right is_r, h))
+call_found function.Role x e zs ys left (right, us, at, is_r, h) =
+    (x, zs, refl, left, (right, us, at, means (class.Sign sign.Close) right is_r, h))
+call_found function.Jwt x e zs ys left (right, us, at, is_r, (arrow, vs, at_a, is_a, h)) = (
+  x,
+  zs,
+  refl,
+  left,
+  (
+    right,
+    us,
+    at,
+    means (class.Sign sign.Close) right is_r,
+    (
+      arrow,
+      vs,
+      at_a,
+      means
+          (class.Sign sign.Arrow) arrow is_a,
+      h,
+    ),
+  ),
+)
 
-function_found : (f : Function) (qualifier : List ℕ) (c : Class) (x : Lexeme) (e : Expr) (zs ys : List Lexeme) → class_of x ≡ c
+function_found : (f : Function) (qualifier : List ℕ) (c : Class) (x : Lexeme) (e : Expr) (zs ys : List Lexeme)
+    → class_of x ≡ c
     → Step (p.after_function f qualifier (Some c)) x e zs ys → GoalTail (goal.Called f qualifier) e (x ∷ zs) ys
-function_found f qualifier (class.Sign sign.Open) x e zs ys is h = inr (call_found f x e zs ys (means (class.Sign sign.Open) x is) h)
+function_found f qualifier (class.Sign sign.Open) x e zs ys is h =
+    inr (call_found f x e zs ys (means (class.Sign sign.Open) x is) h)
 function_found f qualifier _ x e zs ys is h = inl h
 
-claimed_found : (s : Bool) (v e : Expr) (x : Lexeme) (zs ys : List Lexeme) → Step (p.claimed s v) x e zs ys → EndTail s v e zs ys
+claimed_found : (s : Bool) (v e : Expr) (x : Lexeme) (zs ys : List Lexeme) → Step (p.claimed s v) x e zs ys
+    → EndTail s v e zs ys
 claimed_found true v e x zs ys (right, us, at, is_r, h) = (right, us, at, means (class.Sign sign.Close) right is_r, h)
 claimed_found false v e x zs ys h = h
 
-arrow_found : (s : Bool) (c : Class) (x : Lexeme) (e : Expr) (zs ys : List Lexeme) → class_of x ≡ c → Step (p.after_arrow s (Some c) x) x e zs ys → ClaimTail s e (x ∷ zs) ys
-arrow_found s class.Text x e zs ys is h = (content x, (x, zs, refl, (means class.Text x is, refl), claimed_found s (expr.Claim (content x)) e x zs ys h))
+arrow_found : (s : Bool) (c : Class) (x : Lexeme) (e : Expr) (zs ys : List Lexeme) → class_of x ≡ c
+    → Step (p.after_arrow s (Some c) x) x e zs ys → ClaimTail s e (x ∷ zs) ys
+arrow_found s class.Text x e zs ys is h =
+    (content x, (x, zs, refl, (means class.Text x is, refl), claimed_found s (expr.Claim (content x)) e x zs ys h))
 arrow_found s _ x e zs ys is h = absurd h
 
-selected_found : (f : Function) (e : Expr) (zs ys : List Lexeme) → PartTail (p.selected_part f) e zs ys → CallTail true f e zs ys
-selected_found function.Uid e zs ys (a, us, at_a, is_a, (b, vs, at_b, is_b, (d, ws, at_d, is_d, h))) =
-    (a, us, at_a, means (class.Sign sign.Open) a is_a, (b, vs, at_b, means (class.Sign sign.Close) b is_b, (d, ws, at_d, means (class.Sign sign.Close) d is_d, h)))
-selected_found function.Role e zs ys (a, us, at_a, is_a, (b, vs, at_b, is_b, (d, ws, at_d, is_d, h))) =
-    (a, us, at_a, means (class.Sign sign.Open) a is_a, (b, vs, at_b, means (class.Sign sign.Close) b is_b, (d, ws, at_d, means (class.Sign sign.Close) d is_d, h)))
-selected_found function.Jwt e zs ys (a, us, at_a, is_a, (b, vs, at_b, is_b, (d, ws, at_d, is_d, h))) =
-    (a, us, at_a, means (class.Sign sign.Open) a is_a, (b, vs, at_b, means (class.Sign sign.Close) b is_b, (d, ws, at_d, means (class.Sign sign.Arrow) d is_d, h)))
+selected_found : (f : Function) (e : Expr) (zs ys : List Lexeme) → PartTail (p.selected_part f) e zs ys
+    → CallTail true f e zs ys
+selected_found function.Uid e zs ys (a, us, at_a, is_a, (b, vs, at_b, is_b, (d, ws, at_d, is_d, h))) = (
+  a,
+  us,
+  at_a,
+  means (class.Sign sign.Open) a is_a,
+  (
+    b,
+    vs,
+    at_b,
+    means (class.Sign sign.Close) b is_b,
+    (d, ws, at_d, means (class.Sign sign.Close) d is_d, h),
+  ),
+)
+selected_found function.Role e zs ys (a, us, at_a, is_a, (b, vs, at_b, is_b, (d, ws, at_d, is_d, h))) = (
+  a,
+  us,
+  at_a,
+  means (class.Sign sign.Open) a is_a,
+  (
+    b,
+    vs,
+    at_b,
+    means (class.Sign sign.Close) b is_b,
+    (d, ws, at_d, means (class.Sign sign.Close) d is_d, h),
+  ),
+)
+selected_found function.Jwt e zs ys (a, us, at_a, is_a, (b, vs, at_b, is_b, (d, ws, at_d, is_d, h))) = (
+  a,
+  us,
+  at_a,
+  means (class.Sign sign.Open) a is_a,
+  (
+    b,
+    vs,
+    at_b,
+    means (class.Sign sign.Close) b is_b,
+    (d, ws, at_d, means (class.Sign sign.Arrow) d is_d, h),
+  ),
+)
 
-select_found : (c : Class) (x : Lexeme) (e : Expr) (zs ys : List Lexeme) → class_of x ≡ c → Step (p.after_select (Some c)) x e zs ys → FunctionTail true e (x ∷ zs) ys
+select_found : (c : Class) (x : Lexeme) (e : Expr) (zs ys : List Lexeme) → class_of x ≡ c
+    → Step (p.after_select (Some c)) x e zs ys → FunctionTail true e (x ∷ zs) ys
 select_found c x e zs ys is h = go (p.function_of (p.word_in c)) refl h
   where
-    go : (f : Option Function) → p.function_of (p.word_in c) ≡ f → Step (p.selecting_function f) x e zs ys → FunctionTail true e (x ∷ zs) ys
+    go : (f : Option Function) → p.function_of (p.word_in c) ≡ f → Step (p.selecting_function f) x e zs ys
+        → FunctionTail true e (x ∷ zs) ys
     go (Some f) at h = (f, (x, zs, refl, function_keyword c x f is at, selected_found f e zs ys h))
     go None at h = absurd h
 
 -- EXISTS
 
-from_found : (s : Selected) (e : Expr) (zs ys : List Lexeme) → PartTail (part.One wanted.From (goal.Table s)) e zs ys → FromTail s e zs ys
+from_found : (s : Selected) (e : Expr) (zs ys : List Lexeme) → PartTail (part.One wanted.From (goal.Table s)) e zs ys
+    → FromTail s e zs ys
 from_found s e zs ys (x, us, at, is_x, h) = (x, us, at, means (class.Word word.From) x is_x, h)
 
-one_found : (x : Lexeme) (e : Expr) (zs ys : List Lexeme) → class_of x ≡ class.Number → Step (p.one_or (bytes_eq x.bytes (codes "1")) moved.Bad) x e zs ys → SelectsTail e (x ∷ zs) ys
+one_found : (x : Lexeme) (e : Expr) (zs ys : List Lexeme) → class_of x ≡ class.Number
+    → Step (p.one_or (bytes_eq x.bytes (codes "1")) moved.Bad) x e zs ys → SelectsTail e (x ∷ zs) ys
 one_found x e zs ys is h = go (bytes_eq x.bytes (codes "1")) refl h
   where
-    go : (b : Bool) → bytes_eq x.bytes (codes "1") ≡ b → Step (p.one_or b moved.Bad) x e zs ys → SelectsTail e (x ∷ zs) ys
-    go true equal h = (selected.One, zs, g.the_one (means class.Number x is, (bytes_eq-Decides x.bytes (codes "1")).0 equal), from_found selected.One e zs ys h)
+    go : (b : Bool) → bytes_eq x.bytes (codes "1") ≡ b → Step (p.one_or b moved.Bad) x e zs ys
+        → SelectsTail e (x ∷ zs) ys
+    go true equal h = (
+      selected.One,
+      zs,
+      g.the_one (
+        means class.Number x is,
+        (bytes_eq-Decides x.bytes
+            (codes "1")).0 equal,
+      ),
+      from_found selected.One e zs ys h,
+    )
     go false other h = absurd h
 
 -- a column that an EXISTS selects, by its first name
-column_selected : (name : List ℕ) (x : Lexeme) (e : Expr) (zs ys : List Lexeme) → IsNameWithin name x → GoalTail (goal.SelectsName name) e zs ys → SelectsTail e (x ∷ zs) ys
+column_selected : (name : List ℕ) (x : Lexeme) (e : Expr) (zs ys : List Lexeme) → IsNameWithin name x
+    → GoalTail (goal.SelectsName name) e zs ys → SelectsTail e (x ∷ zs) ys
 column_selected name x e zs ys named (inl more) = (selected.Column None name, zs, g.the_column (g.bare named), more)
 column_selected name x e zs ys named (inr (dot, us, at, is_dot, (second, (y, vs, at_y, is_y, more)))) = (
   selected.Column (Some name) second,
   vs,
-  subst (λ (qs : List Lexeme). IsSelected (selected.Column (Some name) second) (x ∷ qs) vs) (sym (at ∙ ap (λ (qs : List Lexeme). dot ∷ qs) at_y)) (g.the_column (g.qualified named is_dot is_y)),
+  subst (λ (qs : List Lexeme). IsSelected (selected.Column (Some name) second) (x ∷ qs) vs) (sym (at
+      ∙ ap (λ (qs : List Lexeme). dot ∷ qs) at_y)) (g.the_column (g.qualified named is_dot is_y)),
   more,
 )
 
 selects_named : (c : Class) (x : Lexeme) (e : Expr) (zs ys : List Lexeme) → class_of x ≡ c
-    → Step (p.by_name (λ name. p.at (goal.SelectsName name)) (p.name_next (Some c) x)) x e zs ys → SelectsTail e (x ∷ zs) ys
+    → Step (p.by_name (λ name. p.at (goal.SelectsName name)) (p.name_next (Some c) x)) x e zs ys
+    → SelectsTail e (x ∷ zs) ys
 selects_named c x e zs ys is h = go (is_name c) refl h
   where
-    go : (b : Bool) → is_name c ≡ b → Step (p.by_name (λ name. p.at (goal.SelectsName name)) (p.name_if b x)) x e zs ys → SelectsTail e (x ∷ zs) ys
+    go : (b : Bool) → is_name c ≡ b → Step (p.by_name (λ name. p.at (goal.SelectsName name))
+        (p.name_if b x)) x e zs ys → SelectsTail e (x ∷ zs) ys
     go true named h = column_selected (kept_name x) x e zs ys (name_of c x is named) h
     go false unnamed h = absurd h
 
-selects_found : (c : Class) (x : Lexeme) (e : Expr) (zs ys : List Lexeme) → class_of x ≡ c → Step (p.selects (Some c) x) x e zs ys → SelectsTail e (x ∷ zs) ys
+selects_found : (c : Class) (x : Lexeme) (e : Expr) (zs ys : List Lexeme) → class_of x ≡ c
+    → Step (p.selects (Some c) x) x e zs ys → SelectsTail e (x ∷ zs) ys
 selects_found class.Number x e zs ys is h = one_found x e zs ys is h
-selects_found (class.Sign sign.Star) x e zs ys is h = (selected.All, zs, g.all_columns (means (class.Sign sign.Star) x is), from_found selected.All e zs ys h)
+selects_found (class.Sign sign.Star) x e zs ys is h =
+    (selected.All, zs, g.all_columns (means (class.Sign sign.Star) x is), from_found selected.All e zs ys h)
 selects_found c x e zs ys is h = selects_named c x e zs ys is h
 
 selected_name_found : (name : List ℕ) (c : Class) (x : Lexeme) (e : Expr) (zs ys : List Lexeme) → class_of x ≡ c
@@ -321,67 +511,89 @@ selected_name_found name (class.Sign sign.Dot) x e zs ys is h = inr (x, zs, refl
 selected_name_found name (class.Word word.From) x e zs ys is h = inl (x, zs, refl, means (class.Word word.From) x is, h)
 selected_name_found name _ x e zs ys is h = absurd h
 
-source_found : (r : Source) (c : Class) (x : Lexeme) (e : Expr) (zs ys : List Lexeme) → class_of x ≡ c → Step (p.after_source r (Some c)) x e zs ys → SourceTail r e (x ∷ zs) ys
-source_found r (class.Word word.Where) x e zs ys is (d, right, inner, last, made) = (Some d, right, g.where_ (means (class.Word word.Where) x is) inner, last, made)
-source_found r (class.Sign sign.Close) x e zs ys is (made, same) =
-    (None, x, subst (λ (qs : List Lexeme). Where None (x ∷ zs) (x ∷ qs)) same g.no_where, means (class.Sign sign.Close) x is, made)
+source_found : (r : Source) (c : Class) (x : Lexeme) (e : Expr) (zs ys : List Lexeme) → class_of x ≡ c
+    → Step (p.after_source r (Some c)) x e zs ys → SourceTail r e (x ∷ zs) ys
+source_found r (class.Word word.Where) x e zs ys is (d, right, inner, last, made) =
+    (Some d, right, g.where_ (means (class.Word word.Where) x is) inner, last, made)
+source_found r (class.Sign sign.Close) x e zs ys is (made, same) = (
+  None,
+  x,
+  subst (λ (qs :
+      List Lexeme). Where None (x ∷ zs) (x ∷ qs)) same g.no_where,
+  means (class.Sign sign.Close) x is,
+  made,
+)
 source_found r _ x e zs ys is h = absurd h
 
-alias_named : (s : Selected) (schema table : List ℕ) (c : Class) (x : Lexeme) (e : Expr) (zs ys : List Lexeme) → class_of x ≡ c
-    → Step (p.alias_or s schema table (p.after_source (p.source s schema table None) (Some c)) (p.name_next (Some c) x)) x e zs ys → AliasTail s schema table e (x ∷ zs) ys
+alias_named : (s : Selected) (schema table : List ℕ) (c : Class) (x : Lexeme) (e : Expr) (zs ys : List Lexeme)
+    → class_of x ≡ c
+    → Step (p.alias_or s schema table (p.after_source (p.source s schema table None) (Some c)) (p.name_next
+    (Some c) x)) x e zs ys → AliasTail s schema table e (x ∷ zs) ys
 alias_named s schema table c x e zs ys is h = go (is_name c) refl h
   where
-    go : (b : Bool) → is_name c ≡ b → Step (p.alias_or s schema table (p.after_source (p.source s schema table None) (Some c)) (p.name_if b x)) x e zs ys
+    go : (b : Bool) → is_name c ≡ b → Step (p.alias_or s schema table (p.after_source (p.source s schema table None)
+        (Some c)) (p.name_if b x)) x e zs ys
         → AliasTail s schema table e (x ∷ zs) ys
     go true named h = (Some (kept_name x), zs, g.alias (name_of c x is named), h)
     go false unnamed h = (None, x ∷ zs, g.no_alias, source_found (p.source s schema table None) c x e zs ys is h)
 
 -- `as` is the alias, or stands before it
-as_alias : (s : Selected) (schema table : List ℕ) (x : Lexeme) (e : Expr) (zs ys : List Lexeme) → IsKeyword (codes "as") x → IsNameWithin (codes "as") x
+as_alias : (s : Selected) (schema table : List ℕ) (x : Lexeme) (e : Expr) (zs ys : List Lexeme)
+    → IsKeyword (codes "as") x → IsNameWithin (codes "as") x
     → AsTail s schema table e zs ys → AliasTail s schema table e (x ∷ zs) ys
 as_alias s schema table x e zs ys is named (inl (name, (y, us, at, is_y, more))) =
     (Some name, us, subst (λ (qs : List Lexeme). IsAlias (Some name) (x ∷ qs) us) (sym at) (g.as_alias is is_y), more)
 as_alias s schema table x e zs ys is named (inr more) = (Some (codes "as"), zs, g.alias named, more)
 
-table_found : (s : Selected) (schema table : List ℕ) (c : Class) (x : Lexeme) (e : Expr) (zs ys : List Lexeme) → class_of x ≡ c
+table_found : (s : Selected) (schema table : List ℕ) (c : Class) (x : Lexeme) (e : Expr) (zs ys : List Lexeme)
+    → class_of x ≡ c
     → Step (p.after_table s schema table (Some c) x) x e zs ys → AliasTail s schema table e (x ∷ zs) ys
 table_found s schema table (class.Word word.As) x e zs ys is h =
-    let k = means (class.Word word.As) x is in as_alias s schema table x e zs ys k (keyword_name (codes "as") x refl k) h
+    let k = means (class.Word word.As) x is in as_alias s schema table x e zs ys k (keyword_name
+    (codes "as") x refl k) h
 table_found s schema table c x e zs ys is h = alias_named s schema table c x e zs ys is h
 
-table_name_found : (s : Selected) (name : List ℕ) (c : Class) (x : Lexeme) (e : Expr) (zs ys : List Lexeme) → class_of x ≡ c
+table_name_found : (s : Selected) (name : List ℕ) (c : Class) (x : Lexeme) (e : Expr) (zs ys : List Lexeme)
+    → class_of x ≡ c
     → Step (p.after_table_name s name (Some c) x) x e zs ys → TableNamedTail s name e (x ∷ zs) ys
 table_name_found s name (class.Sign sign.Dot) x e zs ys is h = inr (x, zs, refl, means (class.Sign sign.Dot) x is, h)
 table_name_found s name c x e zs ys is h = inl (table_found s (codes "public") name c x e zs ys is h)
 
-as_found : (s : Selected) (schema table : List ℕ) (c : Class) (x : Lexeme) (e : Expr) (zs ys : List Lexeme) → class_of x ≡ c
+as_found : (s : Selected) (schema table : List ℕ) (c : Class) (x : Lexeme) (e : Expr) (zs ys : List Lexeme)
+    → class_of x ≡ c
     → Step (p.after_as s schema table (Some c) x) x e zs ys → AsTail s schema table e (x ∷ zs) ys
 as_found s schema table c x e zs ys is h = go (is_name c) refl h
   where
-    go : (b : Bool) → is_name c ≡ b → Step (p.alias_or s schema table (p.after_source (p.source s schema table (Some (codes "as"))) (Some c)) (p.name_if b x)) x e zs ys
+    go : (b : Bool) → is_name c ≡ b → Step (p.alias_or s schema table (p.after_source (p.source s schema table (Some
+        (codes "as"))) (Some c)) (p.name_if b x)) x e zs ys
         → AsTail s schema table e (x ∷ zs) ys
     go true named h = inl (kept_name x, (x, zs, refl, name_of c x is named, h))
     go false unnamed h = inr (source_found (p.source s schema table (Some (codes "as"))) c x e zs ys is h)
 
 -- a table's name, by its first name
-named_table : (s : Selected) (name : List ℕ) (x : Lexeme) (e : Expr) (zs ys : List Lexeme) → IsNameWithin name x → TableNamedTail s name e zs ys → TableTail s e (x ∷ zs) ys
+named_table : (s : Selected) (name : List ℕ) (x : Lexeme) (e : Expr) (zs ys : List Lexeme) → IsNameWithin name x
+    → TableNamedTail s name e zs ys → TableTail s e (x ∷ zs) ys
 named_table s name x e zs ys named (inl more) = (codes "public", name, zs, g.in_public named, more)
 named_table s name x e zs ys named (inr (dot, us, at, is_dot, (second, (y, vs, at_y, is_y, more)))) = (
   name,
   second,
   vs,
-  subst (λ (qs : List Lexeme). IsTableName IsNameWithin name second (x ∷ qs) vs) (sym (at ∙ ap (λ (qs : List Lexeme). dot ∷ qs) at_y)) (g.in_schema named is_dot is_y),
+  subst (λ (qs : List Lexeme). IsTableName IsNameWithin name second (x ∷ qs) vs) (sym (at
+      ∙ ap (λ (qs : List Lexeme). dot ∷ qs) at_y)) (g.in_schema named is_dot is_y),
   more,
 )
 
-table_first_found : (s : Selected) (c : Class) (x : Lexeme) (e : Expr) (zs ys : List Lexeme) → class_of x ≡ c → Step (p.after_from s (Some c) x) x e zs ys → TableTail s e (x ∷ zs) ys
+table_first_found : (s : Selected) (c : Class) (x : Lexeme) (e : Expr) (zs ys : List Lexeme) → class_of x ≡ c
+    → Step (p.after_from s (Some c) x) x e zs ys → TableTail s e (x ∷ zs) ys
 table_first_found s c x e zs ys is h = go (is_name c) refl h
   where
-    go : (b : Bool) → is_name c ≡ b → Step (p.by_name (λ name. p.at (goal.TableNamed s name)) (p.name_if b x)) x e zs ys → TableTail s e (x ∷ zs) ys
+    go : (b : Bool) → is_name c ≡ b → Step (p.by_name (λ name. p.at (goal.TableNamed s name))
+        (p.name_if b x)) x e zs ys → TableTail s e (x ∷ zs) ys
     go true named h = named_table s (kept_name x) x e zs ys (name_of c x is named) h
     go false unnamed h = absurd h
 
-goal_found : (q : Goal) (c : Class) (x : Lexeme) (e : Expr) (zs ys : List Lexeme) → class_of x ≡ c → Step (p.goal_moved q (Some c) x) x e zs ys → GoalTail q e (x ∷ zs) ys
+goal_found : (q : Goal) (c : Class) (x : Lexeme) (e : Expr) (zs ys : List Lexeme) → class_of x ≡ c
+    → Step (p.goal_moved q (Some c) x) x e zs ys → GoalTail q e (x ∷ zs) ys
 goal_found (goal.Whole v) c x e zs ys is h = h
 goal_found (goal.Constant l) c x e zs ys is h = constant_found l c x e zs ys is h
 goal_found goal.Minus c x e zs ys is h = minus_found c x e zs ys is h
@@ -398,7 +610,8 @@ goal_found goal.SelectedFunction c x e zs ys is h = select_found c x e zs ys is 
 goal_found goal.Selects c x e zs ys is h = selects_found c x e zs ys is h
 goal_found (goal.SelectsName name) c x e zs ys is h = selected_name_found name c x e zs ys is h
 goal_found (goal.SelectsDotted name) c x e zs ys is h =
-    by_name_found (λ n us. FromTail (selected.Column (Some name) n) e us ys) (λ n. p.from (selected.Column (Some name) n)) c x e zs ys is
+    by_name_found (λ n us. FromTail (selected.Column (Some name) n) e us ys) (λ n. p.from (selected.Column
+    (Some name) n)) c x e zs ys is
     (λ n k. from_found (selected.Column (Some name) n) e zs ys k) h
 goal_found (goal.Table s) c x e zs ys is h = table_first_found s c x e zs ys is h
 goal_found (goal.TableNamed s name) c x e zs ys is h = table_name_found s name c x e zs ys is h
@@ -423,7 +636,8 @@ met wanted.Time (class.Word word.Time) h = refl
 met wanted.Zone (class.Word word.Zone) h = refl
 met _ _ h = absurd cc
 
-reached_found : (q : Goal) (x : Lexeme) (e : Expr) (zs ys : List Lexeme) → Step (p.reached q) x e zs ys → GoalTail q e zs ys
+reached_found : (q : Goal) (x : Lexeme) (e : Expr) (zs ys : List Lexeme) → Step (p.reached q) x e zs ys
+    → GoalTail q e zs ys
 reached_found (goal.Whole v) x e zs ys h = h
 reached_found _ x e zs ys h = h
 
@@ -435,9 +649,12 @@ met_found a m c x e zs ys is h = go (p.meets a (Some c)) refl h
     go true at h = (is ∙ met a c at, h)
     go false at h = absurd h
 
-pub part_found : (q : Part) (x : Lexeme) (e : Expr) (zs ys : List Lexeme) → Leads (p.part_moved q (Some (class_of x)) x) (Some x) e zs ys → PartTail q e (x ∷ zs) ys
+pub part_found : (q : Part) (x : Lexeme) (e : Expr) (zs ys : List Lexeme)
+    → Leads (p.part_moved q (Some (class_of x)) x) (Some x) e zs ys → PartTail q e (x ∷ zs) ys
 part_found (part.At k) x e zs ys h = goal_found k (class_of x) x e zs ys refl h
 part_found (part.One a k) x e zs ys h =
     let m = met_found a (p.reached k) (class_of x) x e zs ys refl h in (x, zs, refl, m.0, reached_found k x e zs ys m.1)
-part_found (part.Two a b k) x e zs ys h = let m = met_found a (moved.More (part.One b k)) (class_of x) x e zs ys refl h in (x, zs, refl, m.0, m.1)
-part_found (part.Three a b d k) x e zs ys h = let m = met_found a (moved.More (part.Two b d k)) (class_of x) x e zs ys refl h in (x, zs, refl, m.0, m.1)
+part_found (part.Two a b k) x e zs ys h = let m =
+    met_found a (moved.More (part.One b k)) (class_of x) x e zs ys refl h in (x, zs, refl, m.0, m.1)
+part_found (part.Three a b d k) x e zs ys h = let m =
+    met_found a (moved.More (part.Two b d k)) (class_of x) x e zs ys refl h in (x, zs, refl, m.0, m.1)

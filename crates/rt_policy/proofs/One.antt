@@ -1,5 +1,6 @@
 -- The places of expressions, from the laws of the machine.
-use Rattle.std.proofs.Common.{◌≡◌, ℕ, ◌<◌, ◌≤◌, ◌+◌, List, [], ◌∷◌, ◌++◌, Option, Some, None, refl, ap, subst, sym, ◌∙◌, length, take, drop, arith, inl, inr, ◌⊎◌}
+use Rattle.std.proofs.Common.{◌≡◌, ℕ, ◌<◌, ◌≤◌, ◌+◌, List, [], ◌∷◌, ◌++◌, Option, Some, None, refl, ap, subst, sym}
+use Rattle.std.proofs.Common.{◌∙◌, length, take, drop, arith, inl, inr, ◌⊎◌}
 use Rattle.std.specs.List.{slice_get}
 use Rattle.rt_value.specs.Places.{Begins, IsStuckAt, Ends, Breaks, Answer, next, ends, stuck, run, reads, ended}
 use Rattle.rt_value.proofs.Places as places
@@ -35,18 +36,24 @@ pub written_found : (xs : List Lexeme) (e : Expr) → reads step xs start ≡ So
 written_found = places.written_found Written step start Sound Rest step_found begun written_reads some sound tt
 
 -- what a machine that was run so far shows of the tokens
-pub element_ends : (xs : List Lexeme) (n : ℕ) (s : State) (x : Lexeme) (e : Expr) → slice_get xs n ≡ Some x → run step (take n xs) start ≡ Some s → step s (Some x) ≡ ends e → Ends Written xs n e
+pub element_ends : (xs : List Lexeme) (n : ℕ) (s : State) (x : Lexeme) (e : Expr) → slice_get xs n ≡ Some x
+    → run step (take n xs) start ≡ Some s → step s (Some x) ≡ ends e → Ends Written xs n e
 element_ends = places.element_ends Written step start Sound Rest step_found begun written_reads some sound tt step_same
 
-pub element_breaks : (xs : List Lexeme) (n : ℕ) (s : State) (x : Lexeme) → slice_get xs n ≡ Some x → run step (take n xs) start ≡ Some s → step s (Some x) ≡ stuck → Breaks Written xs n
-element_breaks = places.element_breaks Written step start Sound Rest step_found begun written_reads some sound tt step_same
+pub element_breaks : (xs : List Lexeme) (n : ℕ) (s : State) (x : Lexeme) → slice_get xs n ≡ Some x
+    → run step (take n xs) start ≡ Some s → step s (Some x) ≡ stuck → Breaks Written xs n
+element_breaks = places.element_breaks Written step start Sound Rest step_found begun written_reads some sound tt
+    step_same
 
-pub element_goes : (xs : List Lexeme) (n : ℕ) (s u : State) (x : Lexeme) → slice_get xs n ≡ Some x → run step (take n xs) start ≡ Some s → step s (Some x) ≡ next u
+pub element_goes : (xs : List Lexeme) (n : ℕ) (s u : State) (x : Lexeme) → slice_get xs n ≡ Some x
+    → run step (take n xs) start ≡ Some s → step s (Some x) ≡ next u
     → run step (take (n + 1) xs) start ≡ Some u
 element_goes = places.element_goes Written step start Sound Rest step_found begun written_reads some sound tt
 
-pub end_ends : (xs : List Lexeme) (s : State) (e : Expr) → run step xs start ≡ Some s → step s None ≡ ends e → Ends Written xs (length xs) e
+pub end_ends : (xs : List Lexeme) (s : State) (e : Expr) → run step xs start ≡ Some s → step s None ≡ ends e
+    → Ends Written xs (length xs) e
 end_ends = places.end_ends Written step start Sound Rest step_found begun written_reads some sound tt
 
-pub end_breaks : (xs : List Lexeme) (s : State) → run step xs start ≡ Some s → ended (step s None) ≡ None → Breaks Written xs (length xs)
+pub end_breaks : (xs : List Lexeme) (s : State) → run step xs start ≡ Some s → ended (step s None) ≡ None
+    → Breaks Written xs (length xs)
 end_breaks = places.end_breaks Written step start Sound Rest step_found begun written_reads some sound tt

@@ -3,7 +3,8 @@ use Rattle.std.proofs.Common.{◌≡◌, ℕ, ◌⊎◌, Bool, true, false, List
 use Rattle.rt_value.specs.Places.{Answer, next, ends, stuck}
 use Rattle.rt_value.proofs.Places as places
 use Rattle.rt_sql.specs.Lexeme.{Lexeme, IsKeyword, IsSign}
-use Rattle.rt_policy.specs.Grammar.{IsText, IsNumber, IsNameWithin, Keywords, Length, Lengths, Brackets, IsType, IsTableName, IsSelected, IsAlias, tested_word}
+use Rattle.rt_policy.specs.Grammar.{IsText, IsNumber, IsNameWithin, Keywords, Length, Lengths, Brackets, IsType}
+use Rattle.rt_policy.specs.Grammar.{IsTableName, IsSelected, IsAlias, tested_word}
 use Rattle.rt_policy.specs.Grammar.{IsExpr, Ors, Ands, IsNegation, TestedBy, Related, Items, IsOperand, Where}
 use Rattle.rt_policy.specs.Words.{class_of}
 use Rattle.rt_policy.specs.Parts.{cast_to_name, function_text, source, exists_of, class_for}
@@ -55,16 +56,19 @@ abbrev pub ConstantTail : Literal → Tail
 ConstantTail l e zs ys = Is (expr.Literal l) e zs ys ⊎ After (IsSign (codes "::")) (λ us. CastTail l e us ys) zs
 
 abbrev pub NamedTail : List ℕ → TypeName → List Lexeme → List Lexeme → Type 0
-NamedTail name t zs ys = (us : List Lexeme) × (array : Bool) × Lengths zs us × Brackets array us ys × (t ≡ type_name.Named name array)
+NamedTail name t zs ys = (us : List Lexeme) × (array : Bool) × Lengths zs us × Brackets array us ys
+    × (t ≡ type_name.Named name array)
 
 abbrev pub TypeTail : Head → List ℕ → TypeName → List Lexeme → List Lexeme → Type 0
 TypeTail head.Timestamp name t zs ys =
     NamedTail name t zs ys
     ⊎ (((t ≡ type_name.TimestampWithTimeZone) × Keywords (codes "with" ∷ codes "time" ∷ codes "zone" ∷ []) zs ys)
     ⊎ ((t ≡ type_name.TimestampWithoutTimeZone) × Keywords (codes "without" ∷ codes "time" ∷ codes "zone" ∷ []) zs ys))
-TypeTail head.Double name t zs ys = NamedTail name t zs ys ⊎ ((t ≡ type_name.DoublePrecision) × Keywords (codes "precision" ∷ []) zs ys)
+TypeTail head.Double name t zs ys = NamedTail name t zs ys ⊎ ((t ≡ type_name.DoublePrecision)
+    × Keywords (codes "precision" ∷ []) zs ys)
 TypeTail head.Character name t zs ys =
-    NamedTail name t zs ys ⊎ ((us : List Lexeme) × (t ≡ type_name.CharacterVarying) × Keywords (codes "varying" ∷ []) zs us × Length us ys)
+    NamedTail name t zs ys ⊎ ((us : List Lexeme) × (t ≡ type_name.CharacterVarying)
+    × Keywords (codes "varying" ∷ []) zs us × Length us ys)
 TypeTail head.Other name t zs ys = NamedTail name t zs ys
 
 abbrev pub BracketsTail : Literal → List ℕ → Tail
@@ -74,7 +78,8 @@ BracketsTail l name e zs ys = (array : Bool) × Brackets array zs ys × (e ≡ c
 abbrev pub LengthsTail : List Lexeme → List Lexeme → Type 0
 LengthsTail zs us =
     After (IsSign (codes ")")) (λ vs. vs ≡ us) zs
-    ⊎ After (IsSign (codes ",")) (λ vs. (digits : List ℕ) × After (IsNumber digits) (After (IsSign (codes ")")) (λ ws. ws ≡ us)) vs) zs
+    ⊎ After (IsSign (codes ",")) (λ vs. (digits : List ℕ)
+    × After (IsNumber digits) (After (IsSign (codes ")")) (λ ws. ws ≡ us)) vs) zs
 
 -- a call, and a parenthesis where SELECT stands before it
 abbrev pub EndTail : Bool → Expr → Tail
@@ -97,14 +102,17 @@ FunctionTail s e zs ys = (f : Function) × After (IsKeyword (function_text f)) (
 
 abbrev pub DottedTail : Bool → List ℕ → Tail
 DottedTail auth qualifier e zs ys =
-    ((name : List ℕ) × After (IsNameWithin name) (λ us. Is (expr.Column (Some qualifier) name) e us ys) zs) ⊎ ((auth ≡ true) × FunctionTail false e zs ys)
+    ((name : List ℕ) × After (IsNameWithin name) (λ us. Is (expr.Column (Some qualifier) name) e us ys) zs) ⊎
+    ((auth ≡ true) × FunctionTail false e zs ys)
 
 -- an EXISTS
 abbrev pub SourceTail : Source → Tail
-SourceTail r e zs ys = (k : Option Expr) × (right : Lexeme) × Where k zs (right ∷ ys) × IsSign (codes ")") right × (e ≡ exists_of r k)
+SourceTail r e zs ys = (k : Option Expr) × (right : Lexeme) × Where k zs (right ∷ ys) × IsSign (codes ")") right
+    × (e ≡ exists_of r k)
 
 abbrev pub AliasTail : Selected → List ℕ → List ℕ → Tail
-AliasTail s schema table e zs ys = (name : Option (List ℕ)) × (us : List Lexeme) × IsAlias name zs us × SourceTail (source s schema table name) e us ys
+AliasTail s schema table e zs ys = (name : Option (List ℕ)) × (us : List Lexeme) × IsAlias name zs us
+    × SourceTail (source s schema table name) e us ys
 
 abbrev pub AsTail : Selected → List ℕ → List ℕ → Tail
 AsTail s schema table e zs ys =
@@ -112,7 +120,8 @@ AsTail s schema table e zs ys =
     ⊎ SourceTail (source s schema table (Some (codes "as"))) e zs ys
 
 abbrev pub TableDottedTail : Selected → List ℕ → Tail
-TableDottedTail s schema e zs ys = (name : List ℕ) × After (IsNameWithin name) (λ us. AliasTail s schema name e us ys) zs
+TableDottedTail s schema e zs ys =
+    (name : List ℕ) × After (IsNameWithin name) (λ us. AliasTail s schema name e us ys) zs
 
 abbrev pub TableNamedTail : Selected → List ℕ → Tail
 TableNamedTail s name e zs ys =
@@ -120,13 +129,15 @@ TableNamedTail s name e zs ys =
 
 abbrev pub TableTail : Selected → Tail
 TableTail s e zs ys =
-    (schema table : List ℕ) × (us : List Lexeme) × IsTableName IsNameWithin schema table zs us × AliasTail s schema table e us ys
+    (schema table : List ℕ) × (us : List Lexeme) × IsTableName IsNameWithin schema table zs us
+    × AliasTail s schema table e us ys
 
 abbrev pub FromTail : Selected → Tail
 FromTail s e zs ys = After (IsKeyword (codes "from")) (λ us. TableTail s e us ys) zs
 
 abbrev pub SelectsDottedTail : List ℕ → Tail
-SelectsDottedTail qualifier e zs ys = (name : List ℕ) × After (IsNameWithin name) (λ us. FromTail (selected.Column (Some qualifier) name) e us ys) zs
+SelectsDottedTail qualifier e zs ys =
+    (name : List ℕ) × After (IsNameWithin name) (λ us. FromTail (selected.Column (Some qualifier) name) e us ys) zs
 
 abbrev pub SelectsTail : Tail
 SelectsTail e zs ys = (s : Selected) × (us : List Lexeme) × IsSelected s zs us × FromTail s e us ys
@@ -134,7 +145,8 @@ SelectsTail e zs ys = (s : Selected) × (us : List Lexeme) × IsSelected s zs us
 abbrev pub GoalTail : Goal → Tail
 GoalTail (goal.Whole v) e zs ys = Is v e zs ys
 GoalTail (goal.Constant l) e zs ys = ConstantTail l e zs ys
-GoalTail goal.Minus e zs ys = (digits : List ℕ) × After (IsNumber digits) (λ us. ConstantTail (literal.Number true digits) e us ys) zs
+GoalTail goal.Minus e zs ys =
+    (digits : List ℕ) × After (IsNumber digits) (λ us. ConstantTail (literal.Number true digits) e us ys) zs
 GoalTail (goal.Cast l) e zs ys = CastTail l e zs ys
 GoalTail (goal.TypeWord l h name) e zs ys = (t : TypeName) × TypeTail h name t zs ys × (e ≡ expr.Cast l t)
 GoalTail (goal.Varying l) e zs ys = Length zs ys × (e ≡ expr.Cast l type_name.CharacterVarying)
@@ -143,7 +155,8 @@ GoalTail (goal.Lengthened l name) e zs ys = BracketsTail l name e zs ys
 GoalTail (goal.Named auth name) e zs ys =
     Is (expr.Column None name) e zs ys ⊎ After (IsSign (codes ".")) (λ us. DottedTail auth name e us ys) zs
 GoalTail (goal.Dotted auth name) e zs ys = DottedTail auth name e zs ys
-GoalTail (goal.Called f qualifier) e zs ys = Is (expr.Column (Some qualifier) (function_text f)) e zs ys ⊎ CallTail false f e zs ys
+GoalTail (goal.Called f qualifier) e zs ys =
+    Is (expr.Column (Some qualifier) (function_text f)) e zs ys ⊎ CallTail false f e zs ys
 GoalTail (goal.ClaimName s) e zs ys = ClaimTail s e zs ys
 GoalTail goal.SelectedFunction e zs ys = FunctionTail true e zs ys
 GoalTail goal.Selects e zs ys = SelectsTail e zs ys
@@ -178,7 +191,8 @@ abbrev pub BehindOperand : Behind → Bool → Behind
 BehindOperand K i a zs out = (r : Expr) × (ys : List Lexeme) × Related i a r zs ys × BehindRelated K r ys out
 
 abbrev pub BehindItems : Behind → Bool → Bool → Expr → List Expr → List Lexeme → Expr → Type 0
-BehindItems K i n a items zs out = (all : List Expr) × (ys : List Lexeme) × Items i items all zs ys × BehindRelated K (expr.OneOf n a all) ys out
+BehindItems K i n a items zs out = (all : List Expr) × (ys : List Lexeme) × Items i items all zs ys
+    × BehindRelated K (expr.OneOf n a all) ys out
 
 abbrev pub BehindGiven : Behind → Bool → Slot → Behind
 BehindGiven K i slot.First v zs out = BehindOperand K i v zs out
@@ -187,8 +201,10 @@ BehindGiven K i (slot.Item n a items) v zs out = BehindItems K i n a (items ++ v
 
 abbrev pub Wanting : Behind → Bool → Slot → List Lexeme → Expr → Type 0
 Wanting K i slot.First zs out = (n : Expr) × (ys : List Lexeme) × IsNegation i n zs ys × K n ys out
-Wanting K i (slot.Right op a) zs out = (b : Expr) × (ys : List Lexeme) × IsOperand i b zs ys × BehindGiven K i (slot.Right op a) b ys out
-Wanting K i (slot.Item n a items) zs out = (b : Expr) × (ys : List Lexeme) × IsOperand i b zs ys × BehindGiven K i (slot.Item n a items) b ys out
+Wanting K i (slot.Right op a) zs out = (b : Expr) × (ys : List Lexeme) × IsOperand i b zs ys
+    × BehindGiven K i (slot.Right op a) b ys out
+Wanting K i (slot.Item n a items) zs out = (b : Expr) × (ys : List Lexeme) × IsOperand i b zs ys
+    × BehindGiven K i (slot.Item n a items) b ys out
 
 abbrev pub Closes : Behind → Behind
 Closes K e zs out = After (IsSign (codes ")")) (λ ys. K e ys out) zs
@@ -201,15 +217,19 @@ abbrev pub BehindTest : List Frame → Level → Behind
 BehindTest [] l e zs out = Chained (λ d ws o. (ws ≡ []) × (o ≡ d)) false l.ors (l.ands ++ e ∷ []) zs out
 BehindTest (frame.Not outer ∷ st) l e zs out = BehindTest st outer (expr.Not e) zs out
 BehindTest (frame.Group outer s ∷ st) l e zs out =
-    Chained (λ d ws o. Closes (BehindGiven (BehindTest st outer) (inside st) s) (expr.Group d) ws o) (inside st) l.ors (l.ands ++ e ∷ []) zs out
+    Chained (λ d ws o. Closes (BehindGiven (BehindTest st outer) (inside st) s) (expr.Group d) ws o) (inside st) l.ors
+    (l.ands ++ e ∷ []) zs out
 BehindTest (frame.Where outer s r ∷ st) l e zs out =
-    Chained (λ d ws o. Closes (BehindGiven (BehindTest st outer) (inside st) s) (exists_of r (Some d)) ws o) true l.ors (l.ands ++ e ∷ []) zs out
+    Chained (λ d ws o. Closes (BehindGiven (BehindTest st outer) (inside st) s) (exists_of r
+    (Some d)) ws o) true l.ors (l.ands ++ e ∷ []) zs out
 
 abbrev pub BehindClosed : List Frame → Behind
 BehindClosed [] d ws out = (ws ≡ []) × (out ≡ d)
 BehindClosed (frame.Not outer ∷ st) d ws out = ⊥
-BehindClosed (frame.Group outer s ∷ st) d ws out = Closes (BehindGiven (BehindTest st outer) (inside st) s) (expr.Group d) ws out
-BehindClosed (frame.Where outer s r ∷ st) d ws out = Closes (BehindGiven (BehindTest st outer) (inside st) s) (exists_of r (Some d)) ws out
+BehindClosed (frame.Group outer s ∷ st) d ws out =
+    Closes (BehindGiven (BehindTest st outer) (inside st) s) (expr.Group d) ws out
+BehindClosed (frame.Where outer s r ∷ st) d ws out =
+    Closes (BehindGiven (BehindTest st outer) (inside st) s) (exists_of r (Some d)) ws out
 
 -- what is left of an operand, and what is behind it
 abbrev pub Operand : Behind → Bool → Slot → Part → List Lexeme → Expr → Type 0
@@ -218,7 +238,8 @@ Operand K i s p zs out = (e : Expr) × (ys : List Lexeme) × PartTail p e zs ys 
 -- behind a parenthesis where an operand begins
 abbrev pub OpenedTail : Bool → Tail
 OpenedTail i e zs ys =
-    After (IsKeyword (codes "select")) (λ us. After (IsKeyword (codes "auth")) (After (IsSign (codes ".")) (λ vs. FunctionTail true e vs ys)) us) zs
+    After (IsKeyword (codes "select")) (λ us. After (IsKeyword (codes "auth")) (After (IsSign (codes "."))
+    (λ vs. FunctionTail true e vs ys)) us) zs
     ⊎ ((d : Expr) × (right : Lexeme) × IsExpr i d zs (right ∷ ys) × IsSign (codes ")") right × (e ≡ expr.Group d))
 
 abbrev pub Asked : Behind → Bool → Expr → List Lexeme → Expr → Type 0
@@ -237,7 +258,8 @@ RestIn K i (mode.Tested e) zs out = K e zs out
 RestIn K i (mode.NotIn a) zs out = After (IsKeyword (codes "in")) (λ us. Listed K i true a us out) zs
 RestIn K i (mode.In n a) zs out = Listed K i n a zs out
 RestIn K i (mode.Items n a items) zs out = BehindItems K i n a items zs out
-RestIn K i (mode.Is a) zs out = Asked K false a zs out ⊎ After (IsKeyword (codes "not")) (λ us. Asked K true a us out) zs
+RestIn K i (mode.Is a) zs out =
+    Asked K false a zs out ⊎ After (IsKeyword (codes "not")) (λ us. Asked K true a us out) zs
 RestIn K i (mode.IsNot a) zs out = Asked K true a zs out
 
 abbrev pub Rest : State → List Lexeme → Expr → Type 0

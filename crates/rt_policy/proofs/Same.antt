@@ -1,5 +1,6 @@
 -- A token that can't go on is answered as the end is.
-use Rattle.std.proofs.Common.{◌≡◌, ℕ, Bool, true, false, List, [], ◌∷◌, ◌++◌, codes, Option, Some, None, refl, subst, sym}
+use Rattle.std.proofs.Common.{◌≡◌, ℕ, Bool, true, false, List, [], ◌∷◌, ◌++◌, codes, Option, Some, None, refl}
+use Rattle.std.proofs.Common.{subst, sym}
 use Rattle.std.specs.Str.{bytes_eq}
 use Rattle.rt_value.specs.Places.{Answer, next, ends, stuck}
 use Rattle.rt_value.proofs.Places.{Same}
@@ -8,7 +9,9 @@ use Rattle.rt_policy.specs.Grammar.{conjunction, disjunction}
 use Rattle.rt_policy.specs.Words.{class_of, blank, is_name}
 use Rattle.rt_policy.specs.Parts as p
 use Rattle.rt_policy.specs.Machine as m
-use Rattle.rt_policy.specs.Machine.{state, inside, given, close, closed, after_conjunction, after_negation, after_test, after_related, after_operand, after_item, over, moved_to, step, move}
+use Rattle.rt_policy.specs.Machine.{state, inside, given, close, closed, after_conjunction, after_negation}
+use Rattle.rt_policy.specs.Machine.{after_test, after_related, after_operand, after_item, over, moved_to, step}
+use Rattle.rt_policy.specs.Machine.{move}
 use Rattle.rt_policy.specs.declared.judge.Tested.{Tested}
 use Rattle.rt_policy.specs.declared.words.Word.{Word}
 use Rattle.rt_policy.specs.declared.words.Word.TheVariants as word
@@ -46,33 +49,40 @@ closed_same (frame.Not l ∷ st) e c = refl
 closed_same (frame.Group l s ∷ st) e c = close_same (given st l s (expr.Group e)) c
 closed_same (frame.Where l s r ∷ st) e c = close_same (given st l s (p.exists_of r (Some e))) c
 
-conjunction_same : (st : List Frame) (all : List Expr) (c : Class) → Same (after_conjunction st all (Some c)) (after_conjunction st all None)
+conjunction_same : (st : List Frame) (all : List Expr) (c : Class)
+    → Same (after_conjunction st all (Some c)) (after_conjunction st all None)
 conjunction_same st all (class.Word word.Or) = tt
 conjunction_same st all c = closed_same st (disjunction all) c
 
-negation_same : (st : List Frame) (ors all : List Expr) (c : Class) → Same (after_negation st ors all (Some c)) (after_negation st ors all None)
+negation_same : (st : List Frame) (ors all : List Expr) (c : Class)
+    → Same (after_negation st ors all (Some c)) (after_negation st ors all None)
 negation_same st ors all (class.Word word.And) = tt
 negation_same st ors all c = conjunction_same st (ors ++ conjunction all ∷ []) c
 
-test_same : (st : List Frame) (l : Level) (e : Expr) (c : Class) → Same (after_test st l e (Some c)) (after_test st l e None)
+test_same : (st : List Frame) (l : Level) (e : Expr) (c : Class)
+    → Same (after_test st l e (Some c)) (after_test st l e None)
 test_same st l e c = let n = m.negated st l e in negation_same n.stack n.level.ors (n.level.ands ++ n.tree ∷ []) c
 
-related_same : (st : List Frame) (l : Level) (e : Expr) (c : Class) → Same (after_related st l e (Some c)) (after_related st l e None)
+related_same : (st : List Frame) (l : Level) (e : Expr) (c : Class)
+    → Same (after_related st l e (Some c)) (after_related st l e None)
 related_same st l e (class.Word word.Is) = tt
 related_same st l e c = test_same st l e c
 
-operand_same : (st : List Frame) (l : Level) (e : Expr) (c : Class) → Same (after_operand st l e (Some c)) (after_operand st l e None)
+operand_same : (st : List Frame) (l : Level) (e : Expr) (c : Class)
+    → Same (after_operand st l e (Some c)) (after_operand st l e None)
 operand_same st l e (class.Compared op) = tt
 operand_same st l e (class.Word word.In) = tt
 operand_same st l e (class.Word word.Not) = tt
 operand_same st l e c = related_same st l e c
 
-item_same : (st : List Frame) (l : Level) (n : Bool) (a : Expr) (items : List Expr) (c : Class) → Same (after_item st l n a items (Some c)) stuck
+item_same : (st : List Frame) (l : Level) (n : Bool) (a : Expr) (items : List Expr) (c : Class)
+    → Same (after_item st l n a items (Some c)) stuck
 item_same st l n a items (class.Sign sign.Comma) = tt
 item_same st l n a items (class.Sign sign.Close) = tt
 item_same st l n a items _ = refl
 
-over_same : (st : List Frame) (l : Level) (s : Slot) (e : Expr) (c : Class) → Same (over st l s e (Some c)) (over st l s e None)
+over_same : (st : List Frame) (l : Level) (s : Slot) (e : Expr) (c : Class)
+    → Same (over st l s e (Some c)) (over st l s e None)
 over_same st l slot.First e c = operand_same st l e c
 over_same st l (slot.Right op a) e c = related_same st l (expr.Compare op a e) c
 over_same st l (slot.Item n a items) e c = item_same st l n a (items ++ e ∷ []) c
@@ -94,19 +104,23 @@ minus_same class.Number x = tt
 minus_same _ x = refl
 
 -- a name leads on
-by_name_same : (on : List ℕ → Moved) (name : Option (List ℕ)) → ((n : List ℕ) → SameMoved (on n) moved.Bad) → SameMoved (p.by_name on name) moved.Bad
+by_name_same : (on : List ℕ → Moved) (name : Option (List ℕ)) → ((n : List ℕ) → SameMoved (on n) moved.Bad)
+    → SameMoved (p.by_name on name) moved.Bad
 by_name_same on (Some n) goes = goes n
 by_name_same on None goes = refl
 
-numbers_same : (l : _) (name : List ℕ) (c : Class) → SameMoved (p.after_numbers l name (Some c)) (p.after_numbers l name None)
+numbers_same : (l : _) (name : List ℕ) (c :
+    Class) → SameMoved (p.after_numbers l name (Some c)) (p.after_numbers l name None)
 numbers_same l name (class.Sign sign.LeftBracket) = tt
 numbers_same l name _ = refl
 
-name_of_type_same : (l : _) (name : List ℕ) (c : Class) → SameMoved (p.after_name_of_type l name (Some c)) (p.after_name_of_type l name None)
+name_of_type_same : (l : _) (name : List ℕ) (c : Class)
+    → SameMoved (p.after_name_of_type l name (Some c)) (p.after_name_of_type l name None)
 name_of_type_same l name (class.Sign sign.Open) = tt
 name_of_type_same l name c = numbers_same l name c
 
-type_word_same : (l : _) (h : _) (name : List ℕ) (c : Class) → SameMoved (p.after_type_word l h name (Some c)) (p.after_type_word l h name None)
+type_word_same : (l : _) (h : _) (name : List ℕ) (c : Class)
+    → SameMoved (p.after_type_word l h name (Some c)) (p.after_type_word l h name None)
 type_word_same l head.Timestamp name (class.Word word.With) = tt
 type_word_same l head.Timestamp name (class.Word word.Without) = tt
 type_word_same l head.Double name (class.Word word.Precision) = tt
@@ -125,18 +139,22 @@ length_same l name (class.Sign sign.Comma) = tt
 length_same l name (class.Sign sign.Close) = tt
 length_same l name _ = refl
 
-name_same : (auth : Bool) (name : List ℕ) (c : Class) → SameMoved (p.after_name auth name (Some c)) (p.after_name auth name None)
+name_same : (auth : Bool) (name : List ℕ) (c :
+    Class) → SameMoved (p.after_name auth name (Some c)) (p.after_name auth name None)
 name_same auth name (class.Sign sign.Dot) = tt
 name_same auth name _ = refl
 
-called_same : (q : List ℕ) (f : Option Function) (m : Moved) → SameMoved m moved.Bad → SameMoved (p.called_or q f m) moved.Bad
+called_same : (q : List ℕ) (f : Option Function) (m : Moved) → SameMoved m moved.Bad
+    → SameMoved (p.called_or q f m) moved.Bad
 called_same q (Some f) m h = tt
 called_same q None m h = h
 
 dot_same : (auth : Bool) (q : List ℕ) (c : Class) (x : Lexeme) → SameMoved (p.after_dot auth q (Some c) x) moved.Bad
-dot_same auth q c x = called_same q (p.called auth (p.word_in c)) _ (by_name_same (λ name. moved.Done (expr.Column (Some q) name)) (p.name_next (Some c) x) (λ n. tt))
+dot_same auth q c x = called_same q (p.called auth (p.word_in c)) _ (by_name_same (λ name. moved.Done (expr.Column
+    (Some q) name)) (p.name_next (Some c) x) (λ n. tt))
 
-function_same : (f : Function) (q : List ℕ) (c : Class) → SameMoved (p.after_function f q (Some c)) (p.after_function f q None)
+function_same : (f : Function) (q : List ℕ) (c : Class)
+    → SameMoved (p.after_function f q (Some c)) (p.after_function f q None)
 function_same f q (class.Sign sign.Open) = tt
 function_same f q _ = refl
 
@@ -171,16 +189,20 @@ source_same r (class.Word word.Where) = refl
 source_same r (class.Sign sign.Close) = tt
 source_same r _ = refl
 
-alias_same : (s : _) (schema table : List ℕ) (m : Moved) (name : Option (List ℕ)) → SameMoved m moved.Bad → SameMoved (p.alias_or s schema table m name) moved.Bad
+alias_same : (s : _) (schema table : List ℕ) (m : Moved) (name : Option (List ℕ)) → SameMoved m moved.Bad
+    → SameMoved (p.alias_or s schema table m name) moved.Bad
 alias_same s schema table m (Some name) h = tt
 alias_same s schema table m None h = h
 
-table_same : (s : _) (schema table : List ℕ) (c : Class) (x : Lexeme) → SameMoved (p.after_table s schema table (Some c) x) moved.Bad
+table_same : (s : _) (schema table : List ℕ) (c : Class) (x : Lexeme)
+    → SameMoved (p.after_table s schema table (Some c) x) moved.Bad
 table_same s schema table (class.Word word.As) x = tt
 table_same s schema table c x =
-    alias_same s schema table (p.after_source (p.source s schema table None) (Some c)) (p.name_next (Some c) x) (source_same (p.source s schema table None) c)
+    alias_same s schema table (p.after_source (p.source s schema table None) (Some c)) (p.name_next (Some c) x)
+    (source_same (p.source s schema table None) c)
 
-table_name_same : (s : _) (name : List ℕ) (c : Class) (x : Lexeme) → SameMoved (p.after_table_name s name (Some c) x) moved.Bad
+table_name_same : (s : _) (name : List ℕ) (c : Class) (x : Lexeme)
+    → SameMoved (p.after_table_name s name (Some c) x) moved.Bad
 table_name_same s name (class.Sign sign.Dot) x = tt
 table_name_same s name c x = table_same s (codes "public") name c x
 
@@ -188,7 +210,8 @@ goal_same : (g : Goal) (c : Class) (x : Lexeme) → SameMoved (p.goal_moved g (S
 goal_same (goal.Whole e) c x = refl
 goal_same (goal.Constant l) c x = constant_same l c
 goal_same goal.Minus c x = minus_same c x
-goal_same (goal.Cast l) c x = by_name_same (λ name. p.at (goal.TypeWord l (p.head_of (p.word_in c)) name)) (p.name_next (Some c) x) (λ n. tt)
+goal_same (goal.Cast l) c x =
+    by_name_same (λ name. p.at (goal.TypeWord l (p.head_of (p.word_in c)) name)) (p.name_next (Some c) x) (λ n. tt)
 goal_same (goal.TypeWord l h name) c x = type_word_same l h name c
 goal_same (goal.Varying l) c x = varying_same l c
 goal_same (goal.Length l name) c x = length_same l name c
@@ -204,9 +227,11 @@ goal_same (goal.SelectsName name) c x = selected_name_same name c
 goal_same (goal.SelectsDotted name) c x = by_name_same (λ n. p.from _) (p.name_next (Some c) x) (λ n. tt)
 goal_same (goal.Table s) c x = by_name_same (λ n. p.at (goal.TableNamed s n)) (p.name_next (Some c) x) (λ n. tt)
 goal_same (goal.TableNamed s name) c x = table_name_same s name c x
-goal_same (goal.TableDotted s name) c x = by_name_same (λ n. p.at (goal.Alias s name n)) (p.name_next (Some c) x) (λ n. tt)
+goal_same (goal.TableDotted s name) c x =
+    by_name_same (λ n. p.at (goal.Alias s name n)) (p.name_next (Some c) x) (λ n. tt)
 goal_same (goal.Alias s schema table) c x = table_same s schema table c x
-goal_same (goal.As s schema table) c x = alias_same s schema table (p.after_source _ (Some c)) (p.name_next (Some c) x) (source_same _ c)
+goal_same (goal.As s schema table) c x =
+    alias_same s schema table (p.after_source _ (Some c)) (p.name_next (Some c) x) (source_same _ c)
 goal_same (goal.Aliased r) c x = source_same r c
 
 met_same : (b : Bool) (m : Moved) → SameMoved m moved.Bad → SameMoved (p.if_met b m) moved.Bad
@@ -231,10 +256,12 @@ inside_same : (b : Bool) (s : State) → Same (m.if_inside b (next s)) stuck
 inside_same true s = refl
 inside_same false s = tt
 
-moved_same : (st : List Frame) (l : Level) (s : Slot) (a b : Moved) (c : Class) → SameMoved a b → Same (moved_to st l s a (Some c)) (moved_to st l s b None)
+moved_same : (st : List Frame) (l : Level) (s : Slot) (a b : Moved) (c : Class) → SameMoved a b
+    → Same (moved_to st l s a (Some c)) (moved_to st l s b None)
 moved_same st l s (moved.More q) b c h = tt
 moved_same st l s (moved.Done e) b c h = tt
-moved_same st l s (moved.Over e) b c h = subst (λ (v : Moved). Same (over st l s e (Some c)) (moved_to st l s v None)) (sym h) (over_same st l s e c)
+moved_same st l s (moved.Over e) b c h =
+    subst (λ (v : Moved). Same (over st l s e (Some c)) (moved_to st l s v None)) (sym h) (over_same st l s e c)
 moved_same st l s (moved.Condition r) b c h =
     subst (λ (v : Moved). Same (m.condition st l s r) (moved_to st l s v None)) (sym h)
     (inside_same (inside st) (state (frame.Where l s r ∷ st) m.fresh (mode.Want slot.First)))
@@ -255,11 +282,13 @@ want_same st l s (class.Word word.Not) x = not_same st l s
 want_same st l s (class.Word word.Exists) x = inside_same (inside st) (state st l (mode.Within s p.existing))
 want_same st l s c x = begun_same st l s (p.begin c x)
 
-open_same : (st : List Frame) (l : Level) (s : Slot) (c : Class) (x : Lexeme) → Same (m.after_open st l s (Some c) x) stuck
+open_same : (st : List Frame) (l : Level) (s : Slot) (c : Class) (x : Lexeme)
+    → Same (m.after_open st l s (Some c) x) stuck
 open_same st l s (class.Word word.Select) x = tt
 open_same st l s c x = want_same (frame.Group l s ∷ st) m.fresh slot.First c x
 
-tests_same : (st : List Frame) (l : Level) (n : Bool) (a : Expr) (asked : Option Tested) → Same (m.tests st l n a asked) stuck
+tests_same : (st : List Frame) (l : Level) (n : Bool) (a : Expr) (asked : Option Tested)
+    → Same (m.tests st l n a asked) stuck
 tests_same st l n a (Some asked) = tt
 tests_same st l n a None = refl
 
@@ -275,10 +304,12 @@ in_same : (st : List Frame) (l : Level) (n : Bool) (a : Expr) (c : Class) → Sa
 in_same st l n a (class.Sign sign.Open) = tt
 in_same st l n a _ = refl
 
-move_same : (st : List Frame) (l : Level) (o : Mode) (c : Class) (x : Lexeme) → Same (move st l o (Some c) x) (move st l o None blank)
+move_same : (st : List Frame) (l : Level) (o : Mode) (c : Class) (x : Lexeme)
+    → Same (move st l o (Some c) x) (move st l o None blank)
 move_same st l (mode.Want s) c x = want_same st l s c x
 move_same st l (mode.Opened s) c x = open_same st l s c x
-move_same st l (mode.Within s q) c x = moved_same st l s (p.part_moved q (Some c) x) (p.part_moved q None blank) c (part_same q c x)
+move_same st l (mode.Within s q) c x =
+    moved_same st l s (p.part_moved q (Some c) x) (p.part_moved q None blank) c (part_same q c x)
 move_same st l (mode.Operand a) c x = operand_same st l a c
 move_same st l (mode.Related a) c x = related_same st l a c
 move_same st l (mode.Tested a) c x = test_same st l a c

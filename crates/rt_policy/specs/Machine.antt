@@ -108,7 +108,8 @@ after_operand st l a c = after_related st l a c
 
 abbrev pub after_item : List Frame → Level → Bool → Expr → List Expr → Option Class → To
 after_item st l negated a items (Some (class.Sign sign.Comma)) = wanting st l (slot.Item negated a items)
-after_item st l negated a items (Some (class.Sign sign.Close)) = next (state st l (mode.Related (expr.OneOf negated a items)))
+after_item st l negated a items (Some (class.Sign sign.Close)) =
+    next (state st l (mode.Related (expr.OneOf negated a items)))
 after_item st l negated a items c = stuck
 
 -- an operand is read, which ends before the token

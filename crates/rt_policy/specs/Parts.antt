@@ -1,4 +1,5 @@
--- How the reader goes on within an operand in which no other stands, a token at a time. No class is the end of the tokens.
+-- How the reader goes on within an operand in which no other stands, a token at a time. No class is the end of the
+-- tokens.
 use Rattle.std.specs.Prelude.{ℕ, Bool, true, false, cond, List, [], ◌∷◌, codes, Option, Some, None}
 use Rattle.std.specs.Str.{bytes_eq}
 use Rattle.rt_sql.specs.Lexeme.{Lexeme, kept_name, content}
@@ -128,7 +129,8 @@ after_varying l (Some (class.Sign sign.Open)) =
 after_varying l c = moved.Over (expr.Cast l type_name.CharacterVarying)
 
 abbrev pub after_length : Literal → List ℕ → Option Class → Moved
-after_length l name (Some (class.Sign sign.Comma)) = moved.More (part.Two wanted.Number wanted.Close (goal.Lengthened l name))
+after_length l name (Some (class.Sign sign.Comma)) =
+    moved.More (part.Two wanted.Number wanted.Close (goal.Lengthened l name))
 after_length l name (Some (class.Sign sign.Close)) = at (goal.Lengthened l name)
 after_length l name c = moved.Bad
 
@@ -157,7 +159,8 @@ called_or qualifier None other = other
 
 abbrev pub after_dot : Bool → List ℕ → Option Class → Lexeme → Moved
 after_dot auth qualifier c x =
-    called_or qualifier (called auth (word_next c)) (by_name (λ name. moved.Done (expr.Column (Some qualifier) name)) (name_next c x))
+    called_or qualifier (called auth (word_next c)) (by_name (λ name. moved.Done (expr.Column (Some qualifier) name))
+    (name_next c x))
 
 abbrev pub call_part : Function → Part
 call_part function.Uid = part.One wanted.Close (goal.Whole expr.Uid)
@@ -240,7 +243,8 @@ after_table_name s name c x = after_table s (codes "public") name c x
 
 -- behind `as` without a name `as` is the alias
 abbrev pub after_as : Selected → List ℕ → List ℕ → Option Class → Lexeme → Moved
-after_as s schema table c x = alias_or s schema table (after_source (source s schema table (Some (codes "as"))) c) (name_next c x)
+after_as s schema table c x =
+    alias_or s schema table (after_source (source s schema table (Some (codes "as"))) c) (name_next c x)
 
 abbrev pub goal_moved : Goal → Option Class → Lexeme → Moved
 goal_moved (goal.Whole e) c x = moved.Over e

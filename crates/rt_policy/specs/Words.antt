@@ -1,5 +1,6 @@
 -- What a token is to an expression, without the name or the content that it keeps.
-use Rattle.std.specs.Prelude.{ℕ, Bool, true, false, not, ◌||◌, List, [], ◌∷◌, codes, Option, Some, None, option_map, unwrap_or, find}
+use Rattle.std.specs.Prelude.{ℕ, Bool, true, false, not, ◌||◌, List, [], ◌∷◌, codes, Option, Some, None, option_map}
+use Rattle.std.specs.Prelude.{unwrap_or, find}
 use Rattle.std.specs.Str.{bytes_eq, str_to_ascii_lowercase}
 use Rattle.rt_sql.specs.declared.lexeme.TokenKind.{TokenKind}
 use Rattle.rt_sql.specs.declared.lexeme.TokenKind.TheVariants as kind
@@ -43,13 +44,16 @@ word_text word.Other = []
 
 abbrev pub reserved_words : List Word
 reserved_words =
-    word.And ∷ word.Or ∷ word.Not ∷ word.In ∷ word.Is ∷ word.Null ∷ word.True ∷ word.False ∷ word.Exists ∷ word.Select ∷ word.From ∷ word.Where ∷ []
+    word.And ∷ word.Or ∷ word.Not ∷ word.In ∷ word.Is ∷ word.Null ∷ word.True ∷ word.False ∷ word.Exists ∷ word.Select
+    ∷ word.From ∷ word.Where ∷ []
 
 -- those of which a meaning hangs on their place come behind them
 abbrev pub words : List Word
 words =
-    word.And ∷ word.Or ∷ word.Not ∷ word.In ∷ word.Is ∷ word.Null ∷ word.True ∷ word.False ∷ word.Exists ∷ word.Select ∷ word.From ∷ word.Where
-    ∷ word.As ∷ word.Auth ∷ word.Uid ∷ word.Role ∷ word.Jwt ∷ word.Unknown ∷ word.Timestamp ∷ word.With ∷ word.Without ∷ word.Time ∷ word.Zone
+    word.And ∷ word.Or ∷ word.Not ∷ word.In ∷ word.Is ∷ word.Null ∷ word.True ∷ word.False ∷ word.Exists ∷ word.Select
+    ∷ word.From ∷ word.Where
+    ∷ word.As ∷ word.Auth ∷ word.Uid ∷ word.Role ∷ word.Jwt ∷ word.Unknown ∷ word.Timestamp ∷ word.With ∷ word.Without
+    ∷ word.Time ∷ word.Zone
     ∷ word.Double ∷ word.Precision ∷ word.Character ∷ word.Varying ∷ []
 
 -- the word that bytes in lower case are
@@ -77,9 +81,12 @@ is_spelled _ bytes = false
 
 abbrev pub signs : List Class
 signs =
-    class.Sign sign.Open ∷ class.Sign sign.Close ∷ class.Sign sign.Comma ∷ class.Sign sign.Dot ∷ class.Sign sign.Colons ∷ class.Sign sign.Minus
-    ∷ class.Sign sign.Star ∷ class.Sign sign.LeftBracket ∷ class.Sign sign.RightBracket ∷ class.Sign sign.Arrow ∷ class.Compared comparison.Equal
-    ∷ class.Compared comparison.NotEqual ∷ class.Compared comparison.Less ∷ class.Compared comparison.LessOrEqual ∷ class.Compared comparison.Greater
+    class.Sign sign.Open ∷ class.Sign sign.Close ∷ class.Sign sign.Comma ∷ class.Sign sign.Dot ∷ class.Sign sign.Colons
+    ∷ class.Sign sign.Minus
+    ∷ class.Sign sign.Star ∷ class.Sign sign.LeftBracket ∷ class.Sign sign.RightBracket ∷ class.Sign sign.Arrow ∷
+    class.Compared comparison.Equal
+    ∷ class.Compared comparison.NotEqual ∷ class.Compared comparison.Less ∷ class.Compared comparison.LessOrEqual ∷
+    class.Compared comparison.Greater
     ∷ class.Compared comparison.GreaterOrEqual ∷ []
 
 abbrev pub sign_of : List ℕ → Class
