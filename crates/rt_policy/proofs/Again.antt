@@ -1,23 +1,21 @@
 -- Whatever the grammar has is read.
-use Rattle.std.proofs.Common.{◌≡◌, ℕ, Bool, true, false, cond, ◌⊎◌, inl, inr, List, [], ◌∷◌, ◌++◌, codes, Option}
+use Rattle.std.proofs.Common.{◌≡◌, ℕ, Bool, true, false, List, [], ◌∷◌, ◌++◌, codes, Option}
 use Rattle.std.proofs.Common.{Some, None, refl, ap, subst, sym, ◌∙◌}
-use Rattle.std.specs.Str.{bytes_eq}
-use Rattle.rt_value.specs.Places.{Answer, next, ends, stuck, ended, reads_on, reads}
+use Rattle.rt_value.specs.Places.{stuck, ended, reads_on, reads}
 use Rattle.rt_sql.specs.declared.lexeme.TokenKind.TheVariants as kind
-use Rattle.rt_sql.specs.Lexeme.{Lexeme, IsKeyword, IsSign, kept_name, content}
+use Rattle.rt_sql.specs.Lexeme.{Lexeme, IsKeyword, kept_name}
 use Rattle.rt_policy.specs.Grammar as g
 use Rattle.rt_policy.specs.Grammar.{IsExpr, Ors, IsConjunction, Ands, IsNegation, TestedBy, Related, Items}
 use Rattle.rt_policy.specs.Grammar.{IsOperand, Where, IsAlias, IsTableName, IsSelected, IsCall, IsAuth}
 use Rattle.rt_policy.specs.Grammar.{IsNameWithin, IsLiteral, IsType, Lengths, Brackets, Length, IsColumn}
 use Rattle.rt_policy.specs.Grammar.{conjunction, disjunction, tested_word}
-use Rattle.rt_policy.specs.Words.{class_of, class_at, blank, is_name}
+use Rattle.rt_policy.specs.Words.{class_of, blank}
 use Rattle.rt_policy.specs.Parts as p
 use Rattle.rt_policy.specs.Machine as m
 use Rattle.rt_policy.specs.Machine.{To, state, level, fresh, inside, Opens, given, close, closed, after_conjunction}
 use Rattle.rt_policy.specs.Machine.{after_negation, after_test, after_related, after_operand, after_item, over}
 use Rattle.rt_policy.specs.Machine.{moved_to, want, move, step}
-use Rattle.rt_policy.proofs.Classes.{kind_class, keyword_class, sign_class, comparison_class, name_class, kept_word}
-use Rattle.rt_policy.proofs.FoundParts.{function_keyword}
+use Rattle.rt_policy.proofs.Classes.{kind_class, keyword_class, sign_class, name_class}
 use Rattle.rt_policy.specs.declared.judge.Tested.{Tested}
 use Rattle.rt_policy.specs.declared.judge.Tested.TheVariants as tested
 use Rattle.rt_policy.specs.declared.words.Word.TheVariants as word
@@ -28,19 +26,14 @@ use Rattle.rt_policy.specs.declared.expr.Literal.{Literal}
 use Rattle.rt_policy.specs.declared.expr.Literal.TheVariants as literal
 use Rattle.rt_policy.specs.declared.expr.TypeName.{TypeName}
 use Rattle.rt_policy.specs.declared.expr.TypeName.TheVariants as type_name
-use Rattle.rt_policy.specs.declared.expr.Selected.{Selected}
-use Rattle.rt_policy.specs.declared.expr.Selected.TheVariants as selected
 use Rattle.rt_policy.specs.declared.expr.Expr.{Expr}
 use Rattle.rt_policy.specs.declared.expr.Expr.TheVariants as expr
 use Rattle.rt_policy.specs.declared.part.Wanted.TheVariants as wanted
 use Rattle.rt_policy.specs.declared.part.Function.{Function}
-use Rattle.rt_policy.specs.declared.part.Function.TheVariants as function
 use Rattle.rt_policy.specs.declared.part.Head.{Head}
 use Rattle.rt_policy.specs.declared.part.Head.TheVariants as head
-use Rattle.rt_policy.specs.declared.part.Source.{Source}
 use Rattle.rt_policy.specs.declared.part.Goal.{Goal}
 use Rattle.rt_policy.specs.declared.part.Goal.TheVariants as goal
-use Rattle.rt_policy.specs.declared.part.Part.{Part}
 use Rattle.rt_policy.specs.declared.part.Part.TheVariants as part
 use Rattle.rt_policy.specs.declared.part.Moved.{Moved}
 use Rattle.rt_policy.specs.declared.part.Moved.TheVariants as moved

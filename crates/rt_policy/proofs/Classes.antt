@@ -1,13 +1,13 @@
 -- What a token's class says of the token, and the other way round.
-use Rattle.std.proofs.Common.{◌≡◌, ℕ, Bool, true, false, cond, not, ◌||◌, ◌&&◌, ◌⊎◌, ◌↔◌, IsTrue, inl, inr, List}
-use Rattle.std.proofs.Common.{[], ◌∷◌, ◌++◌, codes, Option, Some, None, unwrap_or, find, refl, ap, subst, sym, ◌∙◌}
+use Rattle.std.proofs.Common.{◌≡◌, ℕ, Bool, true, false, cond, not, ◌||◌, ◌↔◌, IsTrue, inl, inr, List}
+use Rattle.std.proofs.Common.{[], ◌∷◌, ◌++◌, codes, Some, unwrap_or, find, refl, ap, subst, sym, ◌∙◌}
 use Rattle.std.specs.List.{list_all, list_any}
 use Rattle.std.specs.Str.{bytes_eq, str_to_ascii_lowercase}
 use Rattle.std.proofs.lemmas.Bool.{and_parts, or_cases}
 use Rattle.std.proofs.lemmas.Slice.Eq.{bytes_eq-Decides}
 use Rattle.rt_sql.specs.declared.lexeme.TokenKind.{TokenKind}
 use Rattle.rt_sql.specs.declared.lexeme.TokenKind.TheVariants as kind
-use Rattle.rt_sql.specs.Lexeme.{Lexeme, IsName, IsKeyword, IsSign, kept_name, content}
+use Rattle.rt_sql.specs.Lexeme.{Lexeme, IsKeyword, IsSign, kept_name}
 use Rattle.rt_policy.specs.Grammar as g
 use Rattle.rt_policy.specs.Grammar.{IsText, IsNumber, IsNameWithin, IsComparison, reserved}
 use Rattle.rt_policy.specs.Words.{word_text, reserved_words, words, word_of, is_spelled, signs, sign_of, class_by}

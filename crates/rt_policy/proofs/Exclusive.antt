@@ -1,9 +1,9 @@
 -- The first place that can't go on is one, and each list has one.
-use Rattle.std.proofs.Common.{◌≡◌, ℕ, ◌+◌, ◌-◌, ◌<◌, ◌≤◌, ◌⊎◌, inl, inr, List, [], ◌∷◌, ◌++◌, Option, Some, None}
+use Rattle.std.proofs.Common.{◌≡◌, ℕ, ◌+◌, ◌-◌, ◌<◌, ◌≤◌, ◌⊎◌, inl, inr, List, [], ◌∷◌, ◌++◌, Some, None}
 use Rattle.std.proofs.Common.{refl, ap, subst, sym, ◌∙◌, length, take, drop, arith, append_assoc, append-nil}
 use Rattle.std.specs.List.{slice_get}
 use Rattle.std.proofs.lemmas.List.{take-append-drop, take-take, take-append-le, take_all}
-use Rattle.rt_value.specs.Places.{Begins, IsStuckAt, Ends, Breaks, Answer, next, ends, stuck, run, run_on, ended}
+use Rattle.rt_value.specs.Places.{Begins, IsStuckAt, Ends, Breaks, Answer, next, ends, stuck, run, ended}
 use Rattle.rt_value.proofs.Places.{run_more}
 use Rattle.rt_sql.specs.Lexeme.{Lexeme}
 use Rattle.rt_policy.specs.Grammar.{Written}

@@ -1,8 +1,8 @@
 -- The places of expressions, from the laws of the machine.
-use Rattle.std.proofs.Common.{◌≡◌, ℕ, ◌<◌, ◌≤◌, ◌+◌, List, [], ◌∷◌, ◌++◌, Option, Some, None, refl, ap, subst, sym}
-use Rattle.std.proofs.Common.{◌∙◌, length, take, drop, arith, inl, inr, ◌⊎◌}
+use Rattle.std.proofs.Common.{◌≡◌, ℕ, ◌+◌, List, Option, Some, None}
+use Rattle.std.proofs.Common.{length, take}
 use Rattle.std.specs.List.{slice_get}
-use Rattle.rt_value.specs.Places.{Begins, IsStuckAt, Ends, Breaks, Answer, next, ends, stuck, run, reads, ended}
+use Rattle.rt_value.specs.Places.{Ends, Breaks, Answer, next, ends, stuck, run, reads, ended}
 use Rattle.rt_value.proofs.Places as places
 use Rattle.rt_sql.specs.Lexeme.{Lexeme}
 use Rattle.rt_policy.specs.Grammar.{Written}

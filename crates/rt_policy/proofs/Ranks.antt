@@ -17,7 +17,7 @@ use Rattle.rt_policy.specs.Truth.{truth_in, is_true, worth_of_truth, compared, o
 use Rattle.rt_policy.specs.Worth.{Who, Place, View, IsWorth, worth_step, worth, shows}
 use Rattle.rt_policy.specs.declared.caller.Seen.TheVariants as Seens
 use Rattle.rt_policy.specs.Ranks.{rank_in, rank_of, reach, reach_in, reach_step, largest, descends, has_no_ring}
-use Rattle.rt_policy.specs.Visibility.{applies, passes, permits, refuses, judged, seen_at, seen_by, is_met, view_by, IsVisibility, visibility_within, visibility, view_of, is_yes, refused_by, lists}
+use Rattle.rt_policy.specs.Visibility.{applies, passes, permits, refuses, judged, seen_at, seen_by, is_met, IsVisibility, visibility_within, visibility, view_of, is_yes, refused_by, lists}
 
 any_same : {X : Type 0} (p q : X → Bool) → ((x : X) → p x ≡ q x) → (xs : List X) → list_any p xs ≡ list_any q xs
 any_same p q h [] = refl

@@ -1,7 +1,5 @@
 -- What may follow in a state: the tokens zs bring it to its end, with the tree out.
 use Rattle.std.proofs.Common.{◌≡◌, ℕ, ◌⊎◌, Bool, true, false, List, [], ◌∷◌, ◌++◌, codes, Option, Some, None}
-use Rattle.rt_value.specs.Places.{Answer, next, ends, stuck}
-use Rattle.rt_value.proofs.Places as places
 use Rattle.rt_sql.specs.Lexeme.{Lexeme, IsKeyword, IsSign}
 use Rattle.rt_policy.specs.Grammar.{IsText, IsNumber, IsNameWithin, Keywords, Length, Lengths, Brackets, IsType}
 use Rattle.rt_policy.specs.Grammar.{IsTableName, IsSelected, IsAlias, tested_word}

@@ -2,18 +2,17 @@
 use Rattle.std.proofs.Common.{◌≡◌, ℕ, Bool, true, false, List, [], ◌∷◌, ◌++◌, codes, Option, Some, None, refl}
 use Rattle.std.proofs.Common.{subst, sym}
 use Rattle.std.specs.Str.{bytes_eq}
-use Rattle.rt_value.specs.Places.{Answer, next, ends, stuck}
+use Rattle.rt_value.specs.Places.{next, stuck}
 use Rattle.rt_value.proofs.Places.{Same}
-use Rattle.rt_sql.specs.Lexeme.{Lexeme, kept_name}
+use Rattle.rt_sql.specs.Lexeme.{Lexeme}
 use Rattle.rt_policy.specs.Grammar.{conjunction, disjunction}
-use Rattle.rt_policy.specs.Words.{class_of, blank, is_name}
+use Rattle.rt_policy.specs.Words.{class_of, blank}
 use Rattle.rt_policy.specs.Parts as p
 use Rattle.rt_policy.specs.Machine as m
 use Rattle.rt_policy.specs.Machine.{state, inside, given, close, closed, after_conjunction, after_negation}
 use Rattle.rt_policy.specs.Machine.{after_test, after_related, after_operand, after_item, over, moved_to, step}
 use Rattle.rt_policy.specs.Machine.{move}
 use Rattle.rt_policy.specs.declared.judge.Tested.{Tested}
-use Rattle.rt_policy.specs.declared.words.Word.{Word}
 use Rattle.rt_policy.specs.declared.words.Word.TheVariants as word
 use Rattle.rt_policy.specs.declared.words.Sign.TheVariants as sign
 use Rattle.rt_policy.specs.declared.words.Class.{Class}

@@ -1,19 +1,17 @@
 -- In every state some tokens lead to the end.
-use Rattle.std.proofs.Common.{◌≡◌, ℕ, ◌⊎◌, inl, inr, Bool, true, false, List, [], ◌∷◌, ◌++◌, codes, Option, Some}
+use Rattle.std.proofs.Common.{◌≡◌, ℕ, inl, inr, Bool, true, false, List, [], ◌∷◌, ◌++◌, codes, Some}
 use Rattle.std.proofs.Common.{None, refl}
 use Rattle.rt_sql.specs.declared.lexeme.TokenKind.TheVariants as kind
-use Rattle.rt_sql.specs.Lexeme.{Lexeme, IsSign, IsKeyword}
+use Rattle.rt_sql.specs.Lexeme.{Lexeme}
 use Rattle.rt_policy.specs.Grammar as g
 use Rattle.rt_policy.specs.Grammar.{IsNameWithin, IsOperand, conjunction, disjunction}
-use Rattle.rt_policy.specs.Words.{class_of, word_text}
+use Rattle.rt_policy.specs.Words.{class_of}
 use Rattle.rt_policy.specs.Parts as p
 use Rattle.rt_policy.specs.Machine.{state, inside}
-use Rattle.rt_policy.proofs.Rest.{Behind, BehindRelated, BehindOperand, BehindItems, BehindGiven, Wanting, Closes}
-use Rattle.rt_policy.proofs.Rest.{Chained, BehindTest, Operand, OpenedTail, Asked, Listed, RestIn, Rest, GoalTail}
+use Rattle.rt_policy.proofs.Rest.{Behind, BehindRelated, BehindGiven, Wanting, Closes}
+use Rattle.rt_policy.proofs.Rest.{Chained, BehindTest, Operand, Asked, Listed, RestIn, Rest, GoalTail}
 use Rattle.rt_policy.proofs.Rest.{PartTail, SourceTail, AliasTail, TableTail, FromTail, Tail}
-use Rattle.rt_policy.specs.declared.judge.Comparison.TheVariants as comparison
 use Rattle.rt_policy.specs.declared.judge.Tested.TheVariants as tested
-use Rattle.rt_policy.specs.declared.words.Word.TheVariants as word
 use Rattle.rt_policy.specs.declared.expr.Literal.TheVariants as literal
 use Rattle.rt_policy.specs.declared.expr.TypeName.TheVariants as type_name
 use Rattle.rt_policy.specs.declared.expr.Selected.{Selected}

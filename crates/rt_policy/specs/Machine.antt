@@ -1,5 +1,5 @@
 -- How an expression is read, a token at a time. No class is the end of the tokens.
-use Rattle.std.specs.Prelude.{◌≡◌, ℕ, Bool, true, false, List, [], ◌∷◌, ◌++◌, Option, Some, None, Result, Ok, Err}
+use Rattle.std.specs.Prelude.{◌≡◌, Bool, true, false, List, [], ◌∷◌, ◌++◌, Option, Some, None, Result, Ok, Err}
 use Rattle.rt_value.specs.Places.{Answer, next, ends, stuck}
 use Rattle.rt_sql.specs.Lexeme.{Lexeme}
 use Rattle.rt_policy.specs.Grammar.{conjunction, disjunction}

@@ -1,6 +1,6 @@
 -- How the reader goes on within an operand in which no other stands, a token at a time. No class is the end of the
 -- tokens.
-use Rattle.std.specs.Prelude.{ℕ, Bool, true, false, cond, List, [], ◌∷◌, codes, Option, Some, None}
+use Rattle.std.specs.Prelude.{ℕ, Bool, true, false, cond, List, codes, Option, Some, None}
 use Rattle.std.specs.Str.{bytes_eq}
 use Rattle.rt_sql.specs.Lexeme.{Lexeme, kept_name, content}
 use Rattle.rt_policy.specs.Words.{is_name}

@@ -1,5 +1,5 @@
 -- The kind of a type's name and how it is shown (PostgreSQL, "Data Types").
-use Rattle.std.specs.Prelude.{ℕ, Bool, true, false, if◌then◌else◌, List, [], ◌∷◌, ◌++◌, codes, Option, Some, None, option_map, unwrap_or, find}
+use Rattle.std.specs.Prelude.{ℕ, Bool, true, false, List, [], ◌∷◌, ◌++◌, codes, option_map, unwrap_or, find}
 use Rattle.std.specs.Str.{bytes_eq}
 use Rattle.rt_value.specs.declared.value.Kind.{Kind}
 use Rattle.rt_value.specs.declared.value.Kind.TheVariants.{Int2, Int4, Int8, Text, Varchar, Bool as Truth, Uuid, Timestamptz, Json, Opaque}

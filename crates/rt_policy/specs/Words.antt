@@ -1,5 +1,5 @@
 -- What a token is to an expression, without the name or the content that it keeps.
-use Rattle.std.specs.Prelude.{ℕ, Bool, true, false, not, ◌||◌, List, [], ◌∷◌, codes, Option, Some, None, option_map}
+use Rattle.std.specs.Prelude.{ℕ, Bool, true, false, not, ◌||◌, List, [], ◌∷◌, codes, Option, option_map}
 use Rattle.std.specs.Prelude.{unwrap_or, find}
 use Rattle.std.specs.Str.{bytes_eq, str_to_ascii_lowercase}
 use Rattle.rt_sql.specs.declared.lexeme.TokenKind.{TokenKind}
