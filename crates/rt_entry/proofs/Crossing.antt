@@ -1,12 +1,16 @@
 -- Inputs and entries may be given to a thread, and shared by threads, since what they hold may.
 use mathlib.Core.Path.{refl}
+use denote.Hole.{as_row}
 use denote.RattleType.{RattleType}
 use denote.Param.Send.{IsSend, IsSync, sendable}
-use denote.Param.SendFields.{as_row_send, as_row_sync}
+use denote.Param.SendFields.{as_row_send, as_row_sync, declared_send, declared_sync}
 use Rattle.rt_value.specs.contracts.bytes.Bytes as Bytes
 use Rattle.rt_value.specs.contracts.claims.Claims as Claims
+use Rattle.rt_value.specs.contracts.list.List as List
+use Rattle.rt_value.specs.contracts.shared.Shared as Shared
+use Rattle.rt_value.specs.contracts.text.Text as Text
 use Rattle.rt_value.proofs.Crossing.{List-send, List-sync, Shared-send, Shared-sync}
-use Rattle.rt_entry.proofs.Variants.{enum_sends, enum_syncs}
+use Rattle.rt_json.specs.contracts.tree.Json as Json
 use Rattle.rt_phx.specs.contracts.end.EndName as EndName
 use Rattle.rt_phx.specs.contracts.message.Message as Message
 use Rattle.rt_phx.specs.contracts.message.Posting as Posting
@@ -17,60 +21,80 @@ use Rattle.rt_replica.specs.contracts.tables.Tables as Tables
 use Rattle.rt_entry.specs.contracts.entry.ChannelView as ChannelView
 use Rattle.rt_entry.specs.contracts.entry.Entry as Entry
 use Rattle.rt_entry.specs.contracts.input.Input as Input
+use Rattle.rt_entry.proofs.Variants.{enum_sends, enum_syncs}
 
-abbrev Crosses : RattleType → Type 0
+abbrev pub Crosses : RattleType → Type 0
 Crosses T = IsSend T × IsSync T
 
-ruleset wholes =
-    (sendable, as_row_send, as_row_sync, List-send, List-sync, Shared-send, Shared-sync)
+list_crosses : (T : RattleType) → Crosses T → Crosses (List.the_row T)
+list_crosses T c = (List-send T c.0, List-sync T c.1)
+
+shared_send : (T : RattleType) → IsSend T → IsSync T → IsSend (as_row (Shared.the_field T))
+shared_send T s y = as_row_send (Shared.the_field T) (Shared-send T s y)
+
+shared_sync : (T : RattleType) → IsSend T → IsSync T → IsSync (as_row (Shared.the_field T))
+shared_sync T s y = as_row_sync (Shared.the_field T) (Shared-sync T s y)
+
+ruleset wholes = (sendable, as_row_send, as_row_sync, List-send, List-sync)
+
+module _ (text : Crosses Text.the_row) (json : Crosses Json.the_row) where
+  pub ChannelView-crosses : Crosses ChannelView.the_row
+  ChannelView-crosses = (
+    declared_send ChannelView.the_type (search (wholes, text.0, json.0) depth 10),
+    declared_sync ChannelView.the_type (search (wholes, text.1, json.1) depth 10),
+  )
 
 module _ (version : Crosses Version.the_row) (claims : Crosses Claims.the_row) (bytes : Crosses Bytes.the_row)
     (posting : Crosses Posting.the_row) (change : Crosses Change.the_row) where
-  pub Input-send : IsSend Input.the_row
-  Input-send =
-      enum_sends Input.the_type _ (λ d. refl)
-      (search (wholes, version.0, claims.0, bytes.0, posting.0, change.0) depth 10)
-
-  pub Input-sync : IsSync Input.the_row
-  Input-sync =
-      enum_syncs Input.the_type _ (λ d. refl)
-      (search (wholes, version.1, claims.1, bytes.1, posting.1, change.1) depth 10)
+  pub Input-crosses : Crosses Input.the_row
+  Input-crosses = (
+    enum_sends Input.the_type _ (λ d. refl)
+        (search (wholes, version.0, claims.0, bytes.0, posting.0, change.0) depth 10),
+    enum_syncs Input.the_type _ (λ d. refl)
+        (search (wholes, version.1, claims.1, bytes.1, posting.1, change.1) depth 10),
+  )
 
 module _ (version : Crosses Version.the_row) (name : Crosses EndName.the_row) (message : Crosses Message.the_row)
     (change : Crosses Change.the_row) (tables : Crosses Tables.the_row) (subscriptions : Crosses Subscriptions.the_row)
     (view : Crosses ChannelView.the_row) where
-  pub Entry-send : IsSend Entry.the_row
-  Entry-send =
-      enum_sends Entry.the_type _ (λ d. refl)
-      (search (
-        wholes,
-        version.0,
-        name.0,
-        message.0,
-        change.0,
-        change.1,
-        tables.0,
-        tables.1,
-        subscriptions.0,
-        subscriptions.1,
-        view.0,
-        view.1,
-      ) depth 10)
+  changes : Crosses (List.the_row Change.the_row)
+  changes = list_crosses Change.the_row change
 
-  pub Entry-sync : IsSync Entry.the_row
-  Entry-sync =
-      enum_syncs Entry.the_type _ (λ d. refl)
-      (search (
-        wholes,
-        version.1,
-        name.1,
-        message.1,
-        change.0,
-        change.1,
-        tables.0,
-        tables.1,
-        subscriptions.0,
-        subscriptions.1,
-        view.0,
-        view.1,
-      ) depth 10)
+  views : Crosses (List.the_row ChannelView.the_row)
+  views = list_crosses ChannelView.the_row view
+
+  pub Entry-crosses : Crosses Entry.the_row
+  Entry-crosses = (
+    enum_sends Entry.the_type _ (λ d. refl)
+        (search (
+          wholes,
+          shared_send,
+          version.0,
+          name.0,
+          message.0,
+          changes.0,
+          changes.1,
+          tables.0,
+          tables.1,
+          subscriptions.0,
+          subscriptions.1,
+          views.0,
+          views.1,
+        ) depth 10),
+    enum_syncs Entry.the_type _ (λ d. refl)
+        (search (
+          wholes,
+          shared_sync,
+          version.1,
+          name.1,
+          message.1,
+          changes.0,
+          changes.1,
+          tables.0,
+          tables.1,
+          subscriptions.0,
+          subscriptions.1,
+          views.0,
+          views.1,
+        ) depth 10),
+  )

@@ -4,7 +4,7 @@ ghost use Rattle.rt_entry.specs.contracts.entry.ChannelView as channel_view;
 ghost use Rattle.rt_entry.specs.contracts.entry.Entry as entry;
 ghost use Rattle.rt_entry.specs.contracts.input.Input as input;
 
-use crate::{ChannelView, Item};
+use crate::Item;
 use rt_value::may_share;
 
 /// Each type of this crate that stands in what threads hand one another may be given to a thread,
@@ -16,10 +16,10 @@ pub fn handed_may_be_shared()
     ensures entry { IsSend entry.the_row × IsSync entry.the_row }
 {
     rt_value::data_may_be_shared();
+    rt_json::trees_may_be_shared();
     rt_phx::messages_may_be_shared();
     rt_change::changes_may_be_shared();
     rt_registry::subscriptions_may_be_shared();
     rt_replica::tables_may_be_shared();
-    may_share::<ChannelView>();
     may_share::<Item>();
 }
