@@ -6,9 +6,9 @@ returns-clause-channel_view c = ChannelView-crosses c.data_may_be_shared.ensures
 
 pub returns-clause-input : goal.returns-clause-input
 returns-clause-input c =
-    let data = c.data_may_be_shared.ensures in
+    let held = c.data_may_be_shared.ensures in
     let messages = c.messages_may_be_shared.ensures in
-    Input-crosses messages.version data.claims data.bytes messages.posting c.changes_may_be_shared.ensures
+    Input-crosses messages.version held.claims held.bytes messages.posting c.changes_may_be_shared.ensures
 
 pub returns-clause-entry : goal.returns-clause-entry
 returns-clause-entry c =
