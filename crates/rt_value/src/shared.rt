@@ -1,6 +1,7 @@
-ghost use Rattle.std.specs.Prelude.{◌≡◌};
+ghost use Rattle.std.specs.Prelude.{◌≡◌, IfOk};
 ghost use Rattle.std.specs.Arc.{arc_value};
 
+use std::alloc::AllocError;
 use std::marker::Model;
 use std::sync::Arc;
 
@@ -26,6 +27,16 @@ impl<T> Shared<T> {
         ensures { result ≡ arc_value inner }
     {
         Shared { inner }
+    }
+
+    /// The same value with one owner more; nothing of it is copied. Fails for want of memory
+    /// alone.
+    pub fn copy(&self) -> Result<Self, AllocError>
+        ensures { IfOk result (λ s. s ≡ self.now) }
+    {
+        Ok(Shared {
+            inner: Arc::try_clone(&self.inner)?,
+        })
     }
 
     /// Lends the value.
