@@ -2,7 +2,9 @@
 #![tactic(auto)]
 
 mod fault;
+mod laws;
 mod script;
 
 pub use fault::{LineWhy, ScriptFault};
+pub use laws::one_script;
 pub use script::{Act, Line, Script};

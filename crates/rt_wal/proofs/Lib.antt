@@ -9,3 +9,4 @@ pub mod Stamps
 pub mod Cuts
 pub mod OneMoment
 pub mod OneCut
+pub mod OneRecord

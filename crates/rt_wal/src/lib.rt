@@ -11,6 +11,6 @@ mod times;
 
 pub use batching::{Batcher, Batching};
 pub use faults::{RecordWhy, WalFault};
-pub use laws::{one_cut, one_moment};
+pub use laws::{one_cut, one_moment, one_record};
 pub use parsing::{parse_record, parse_text};
 pub use records::{Action, Field, Record};

@@ -1,0 +1,6 @@
+pub mod Blanks
+pub mod ReadBack
+pub mod Bounded
+pub mod Lanes
+pub mod EachLine
+pub mod OneScript
