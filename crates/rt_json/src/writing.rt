@@ -1,4 +1,5 @@
-ghost use Rattle.std.specs.Prelude.{◌≡◌, ◌++◌, ◌∷◌, [], ◌<◌, List, flat_map, OnOk, OnErr, IfOk, IsUtf8};
+ghost use Rattle.std.specs.Prelude.{◌≡◌, ◌++◌, ◌∷◌, [], ◌<◌, List, flat_map};
+ghost use Rattle.std.specs.Prelude.{OnOk, OnErr, IfOk, IsUtf8};
 ghost use Rattle.std.specs.Io.{StartsWith};
 ghost use Rattle.std.specs.List.{AllByRecursion};
 ghost use Rattle.rt_json.specs.Written.{written, written_member, listed, quoted, written_byte, hex_digit, comma_before};
@@ -66,8 +67,8 @@ fn write_text(out: &mut Vec<u8>, text: &[u8]) -> Result<(), AllocError>
     }
 }
 
-/// Writes a text in quotes behind what is there, as `write` spells it. Fails for want of memory alone, and then the
-/// bytes are as they were.
+/// Writes a text in quotes behind what is there, as `write` spells it. Fails for want of memory
+/// alone, and then the bytes are as they were.
 pub fn write_text_behind(bytes: &mut Vec<u8>, text: &str) -> Result<(), AllocError>
     ensures spelling { OnOk result (bytes.new.items ≡ bytes.old.items ++ quoted text.now) }
     ensures kept { OnErr result (bytes.new.items ≡ bytes.old.items) }
@@ -179,10 +180,11 @@ pub fn written_again()
     ensures { (tree : Json) → FitsWithin max_levels tree → IsJson (written tree) tree }
 {}
 
-/// A list is spelled by its items and an object by its members, with commas between them. So a spelling can be put
-/// together from parts that are spelled already.
+/// A list is spelled by its items and an object by its members, with commas between them. So a
+/// spelling can be put together from parts that are spelled already.
 pub fn written_by_parts()
-    ensures list { (items : List Json) → written (Json.List items) ≡ 91 ∷ listed written items ++ 93 ∷ [] }
+    ensures list { (items : List Json)
+        → written (Json.List items) ≡ 91 ∷ listed written items ++ 93 ∷ [] }
     ensures object { (members : List Member)
         → written (Json.Object members) ≡ 123 ∷ listed written_member members ++ 125 ∷ [] }
 {}

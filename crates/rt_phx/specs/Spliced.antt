@@ -1,5 +1,5 @@
--- The spelling of a change, of which the bytes of what it shows are given: they stand between the pieces as they are. That
--- it is the one spelling of the change's message, where the bytes are the spelling of a tree, is a law.
+-- The spelling of a change, of which the bytes of what it shows are given: they stand between the pieces as they
+-- are. That it is the one spelling of the change's message, where the bytes are a tree's spelling, is a law.
 use Rattle.std.specs.Prelude.{ℕ, List, ◌++◌, codes}
 use Rattle.std.specs.Fmt.{decimal}
 use Rattle.rt_json.specs.declared.tree.Json.{Json}

@@ -15,8 +15,8 @@ struct Body {
     payload: Json,
 }
 
-/// A message that is told to many: each has refs of its own, and topic, event and payload stand in memory once.
-/// Contracts see the message.
+/// A message that is told to many: each has refs of its own, and topic, event and payload stand in
+/// memory once. Contracts see the message.
 #[derive(Drop)]
 pub struct Said {
     join_ref: Json,
@@ -77,7 +77,8 @@ impl Said {
         })
     }
 
-    /// An equal message: its refs are copied, and all else is shared. Fails for want of memory alone.
+    /// An equal message: its refs are copied, and all else is shared. Fails for want of memory
+    /// alone.
     pub fn copy(&self, alloc: Global) -> Result<Said, AllocError>
         ensures { IfOk result (λ said. said ≡ self.now) }
     {

@@ -2,10 +2,10 @@
 //!
 //! A case begins with a word. After `V1` and `V2` comes a frame of that version, and the answer is
 //! its message as the other version spells it; after `size` a frame of version 2, and the answer is
-//! its length. Else the word names a function of `rt_phx::saying`: its arguments come behind it, with
-//! ` | ` between two, and the answer is its message as version 2 spells it. `told` is the message of a
-//! frame of version 2 under another join_ref, `spliced` a change of a version, of which the text of
-//! what it shows is given. `end` names an `EndName`.
+//! its length. `told` is the message of a frame of version 2 under another join_ref, `spliced` a
+//! change of a version, of which the text of what it shows is given. `end` names an `EndName`. Else
+//! the word names a function of `rt_phx::saying`: its arguments come behind it, with ` | ` between
+//! two, and the answer is its message as version 2 spells it.
 #![tactic(auto)]
 
 mod ends;
