@@ -20,6 +20,7 @@ use Rattle.rt_phx.specs.Asks.{is_join, is_channel_topic}
 use Rattle.rt_phx.specs.Asks as ask
 use Rattle.rt_phx.specs.declared.message.Posting.{Posting}
 use Rattle.rt_phx.specs.Posts.{channel_topic, posted_payload}
+use Rattle.rt_phx.specs.Checked.{Checked}
 use Rattle.rt_filter.specs.declared.subscription.Subscription.{Subscription}
 use Rattle.rt_catalog.specs.declared.catalog.Catalog.{Catalog}
 use Rattle.rt_change.specs.declared.change.Change.{Change}
@@ -37,7 +38,7 @@ use Rattle.rt_entry.specs.declared.story.Part.TheVariants.{Joins}
 use Rattle.rt_entry.specs.declared.entry.ChannelView.{ChannelView}
 use Rattle.rt_entry.specs.Story.{Now, has, departed_in, joined_by}
 use Rattle.rt_entry.specs.Messages.{presence_state, subscribed_message, joined_response}
-use Rattle.rt_entry.specs.Joining.{Checked, channel_of_join, renewal_of}
+use Rattle.rt_entry.specs.Joining.{channel_of_join, renewal_of}
 use Rattle.rt_entry.specs.Doings.{tell, in_turn, opening_in, channel_on, track_of, leave_diffs, end_of, end_if_open}
 use Rattle.rt_entry.specs.Doings.{close, tell_if, open_parts, has_bindings, present_on, accept_parts, join_result_parts}
 use Rattle.rt_entry.specs.Doings.{others, renewal_parts, gets_broadcast, broadcast_part, broadcast_parts, track_by}

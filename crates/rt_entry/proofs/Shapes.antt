@@ -27,11 +27,14 @@ use Rattle.rt_phx.specs.Asks.{is_join, is_channel_topic, name_in}
 use Rattle.rt_phx.specs.Asks as ask
 use Rattle.rt_phx.specs.declared.message.Posting.{Posting}
 use Rattle.rt_phx.specs.Posts.{channel_topic, posted_payload}
+use Rattle.rt_phx.specs.Checked.{Checked, ◌>>◌, or_why, demand, told_by}
+use Rattle.rt_phx.specs.Limits.{channel_limit}
 use Rattle.rt_filter.specs.declared.subscription.Subscription.{Subscription}
 use Rattle.rt_catalog.specs.declared.catalog.Catalog.{Catalog}
 use Rattle.rt_change.specs.declared.change.Change.{Change}
 use Rattle.rt_change.specs.Verdicts.{is_truncate}
 use Rattle.rt_registry.specs.Bindings.{bindings_for}
+use Rattle.rt_registry.specs.Asked.{registry_text, binding_of}
 use Rattle.rt_entry.specs.declared.input.Input.{Input}
 use Rattle.rt_entry.specs.declared.input.Input.TheVariants.{Opened, Frame, Gone, Poll, Tick, Stop, Post}
 use Rattle.rt_entry.specs.declared.input.Settings.{Settings}
@@ -45,7 +48,6 @@ use Rattle.rt_entry.specs.declared.story.Part.TheVariants.{Opens, Ends, Tells, J
 use Rattle.rt_entry.specs.declared.entry.ChannelView.{ChannelView}
 use Rattle.rt_entry.specs.Story.{Now, departed_in, has}
 use Rattle.rt_entry.specs.Messages.{subscribed_message, presence_state, joined_response}
-use Rattle.rt_entry.specs.Joining.{Checked, ◌>>◌, or_why, demand, told_by, registry_text, channel_limit, binding_of}
 use Rattle.rt_entry.specs.Joining.{asked_claims, channel_of_join, renewal_of, standing_for}
 use Rattle.rt_entry.specs.Joining.{is_as_private, made_channel}
 use Rattle.rt_entry.specs.Doings.{tell, in_turn, opening_in, is_of_slot, is_on, channels_of, channel_on, track_of}

@@ -22,6 +22,9 @@ use Rattle.rt_phx.specs.Says.{reply_ok, reply_error}
 use Rattle.rt_phx.specs.Asks.{Ask, leave, renew, track, untrack, unknown_presence, nothing, ask_of, is_heartbeat}
 use Rattle.rt_phx.specs.Asks.{is_join, is_presence, is_channel_topic}
 use Rattle.rt_phx.specs.Asks as ask
+use Rattle.rt_phx.specs.Checked.{Checked}
+use Rattle.rt_phx.specs.Limits.{is_idle_since, unmatched_topic, token_expired, presence_disabled}
+use Rattle.rt_phx.specs.Limits.{unknown_presence_event}
 use Rattle.rt_phx.specs.Posts.{channel_topic, posted_payload}
 use Rattle.rt_filter.specs.declared.subscription.Subscription.{Subscription}
 use Rattle.rt_catalog.specs.declared.catalog.Catalog.{Catalog}
@@ -45,7 +48,7 @@ use Rattle.rt_entry.specs.declared.story.Part.TheVariants.{Opens, Ends, Tells, J
 use Rattle.rt_entry.specs.declared.entry.ChannelView.{ChannelView}
 use Rattle.rt_entry.specs.Messages.{close_message, subscribed_message, failed_message, joined_response, presence_state}
 use Rattle.rt_entry.specs.Messages.{presence_diff, broadcast_message, change_message}
-use Rattle.rt_entry.specs.Joining.{Checked, denied, channel_of_join, renewal_of}
+use Rattle.rt_entry.specs.Joining.{denied, channel_of_join, renewal_of}
 use Rattle.rt_entry.specs.Story.{Story, Now, now_of, tables_left, has, departed_in}
 
 abbrev pub tell : ℕ → Message → List Part
@@ -201,11 +204,8 @@ abbrev pub is_shut : Channel → Message → Bool
 is_shut ch m = is_presence m && not ch.presence
 
 -- Tick. An opening that wasn't heard for a minute ends as idle; else its channels whose claims have run out close.
-abbrev pub idle_limit : ℕ
-idle_limit = 60000
-
 abbrev pub is_idle : ℕ → Opening → Bool
-is_idle moment o = nat_le (o.heard + idle_limit) moment
+is_idle moment o = is_idle_since o.heard moment
 
 abbrev pub has_run_out : ℕ → Member → Bool
 has_run_out moment h = is_expired (seconds_of moment) h.standing.claims.exp
@@ -215,7 +215,7 @@ tick_parts now moment gone (slot, None) = []
 tick_parts now moment gone (slot, Some o) =
     elim (is_idle moment o) [
       | true ↦ end_of now gone slot end_name.Idle
-      | false ↦ in_turn (fail now (codes "token expired")) gone (filter (has_run_out moment) (channels_of now slot))
+      | false ↦ in_turn (fail now token_expired) gone (filter (has_run_out moment) (channels_of now slot))
     ]
 
 -- Stop. Every opening ends: all its channels depart, no differences are sent.
@@ -264,7 +264,7 @@ module _ (c : Catalog) (s : Settings) where
     join_parts slot o m =
         elim (is_channel_topic m.topic) [
           | true ↦ join_over_former slot o m (option_to_list (channel_on now slot m.topic))
-          | false ↦ tell slot (reply_error m.join_ref m (codes "unmatched topic"))
+          | false ↦ tell slot (reply_error m.join_ref m unmatched_topic)
         ]
 
     abbrev pub renew_parts : Opening → Member → Option Json → List Part
@@ -279,13 +279,13 @@ module _ (c : Catalog) (s : Settings) where
     ask_parts o h m (track tree) = track_parts now h.channel m (track_by now h.channel tree)
     ask_parts o h m untrack = untrack_parts now h.channel m
     ask_parts o h m unknown_presence =
-        tell h.channel.slot (reply_error h.channel.join_ref m (codes "unknown presence event"))
+        tell h.channel.slot (reply_error h.channel.join_ref m unknown_presence_event)
     ask_parts o h m nothing = []
 
     abbrev pub permitted_parts : Opening → Member → Message → List Part
     permitted_parts o h m =
         elim (is_shut h.channel m) [
-          | true ↦ tell h.channel.slot (reply_error h.channel.join_ref m (codes "presence disabled"))
+          | true ↦ tell h.channel.slot (reply_error h.channel.join_ref m presence_disabled)
           | false ↦ ask_parts o h m (ask_of m)
         ]
 
@@ -295,7 +295,7 @@ module _ (c : Catalog) (s : Settings) where
     judged_parts o h m (Some why) = tell h.channel.slot (reply_error h.channel.join_ref m why)
 
     abbrev pub channel_parts : ℕ → Opening → Message → Option Member → List Part
-    channel_parts slot o m None = tell slot (reply_error m.join_ref m (codes "unmatched topic"))
+    channel_parts slot o m None = tell slot (reply_error m.join_ref m unmatched_topic)
     channel_parts slot o m (Some h) = judged_parts o h m (denied_ask h.standing (ask_of m))
 
     -- Frame. A bad one ends the opening.

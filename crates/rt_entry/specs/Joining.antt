@@ -1,24 +1,22 @@
 -- Whether a join or a renewal is accepted, and what it makes of the channel; or the first reason against it (the
 -- Realtime protocol, "Joining a channel"; the reasons' texts are this project's).
-use Rattle.std.specs.Prelude.{ℕ, ◌+◌, nat_lt, Bool, true, false, ◌&&◌, List, [], ◌++◌, map, codes, Option, Some}
-use Rattle.std.specs.Prelude.{None, is_none, is_some, Result, Ok, Err}
-use Rattle.std.specs.Fmt.{decimal}
-use Rattle.std.specs.Str.{bytes_eq}
+use Rattle.std.specs.Prelude.{ℕ, ◌+◌, nat_lt, Bool, true, false, ◌&&◌, List, map, codes, Option, Some, is_none}
+use Rattle.std.specs.Prelude.{is_some, Ok}
 use Rattle.rt_value.specs.declared.claims.Claims.{Claims}
 use Rattle.rt_value.specs.declared.row.Row.{Row}
 use Rattle.rt_value.specs.Tables.{rows_of_table}
 use Rattle.rt_json.specs.declared.tree.Json.{Json}
 use Rattle.rt_json.specs.Lookup.{member_of}
-use Rattle.rt_json.specs.Trees.{is_null}
-use Rattle.rt_token.specs.Asked.{claims_asked, asked_has_reason, seconds_of}
-use Rattle.rt_token.specs.Reasons.{or_text}
+use Rattle.rt_token.specs.Asked.{claims_or_text, seconds_of}
 use Rattle.rt_phx.specs.declared.message.Message.{Message}
-use Rattle.rt_phx.specs.Joins.{Asked, Config, config_of}
+use Rattle.rt_phx.specs.Checked.{Checked, ◌>>◌, or_why, demand, told_by, unless}
+use Rattle.rt_phx.specs.Joins.{Config, config_of, key_of, join_ref_of}
+use Rattle.rt_phx.specs.Limits.{channel_limit, bad_config, private_channel, too_many_channels}
 use Rattle.rt_phx.specs.Asks.{name_in}
 use Rattle.rt_catalog.specs.declared.catalog.Catalog.{Catalog}
-use Rattle.rt_registry.specs.declared.binding.Binding.{Binding}
 use Rattle.rt_registry.specs.declared.binding.Subscribed.{Subscribed}
-use Rattle.rt_registry.specs.Bindings.{Refusal, unknown_role, limit, bad_binding, role_for, bindings_for, why_text}
+use Rattle.rt_registry.specs.Asked.{binding_of, registry_text}
+use Rattle.rt_registry.specs.Bindings.{role_for, bindings_for}
 use Rattle.rt_private.specs.Rights as private
 use Rattle.rt_private.specs.Rights.{Use, messages_of, denial}
 use Rattle.rt_entry.specs.declared.input.Settings.{Settings}
@@ -27,64 +25,9 @@ use Rattle.rt_entry.specs.declared.story.Standing.{Standing}
 use Rattle.rt_entry.specs.declared.story.Channel.{Channel}
 use Rattle.rt_entry.specs.Story.{Now}
 
--- a value, or the reason that is told
-abbrev pub Checked : Type 0 → Type 0
-Checked A = Result A (List ℕ)
-
-infixl 10 ◌>>◌
-abbrev pub ◌>>◌ : {A B : Type 0} → Checked A → (A → Checked B) → Checked B
-(Ok x) >> f = f x
-(Err why) >> f = Err why
-
-abbrev pub or_why : {A : Type 0} → List ℕ → Option A → Checked A
-or_why why None = Err why
-or_why why (Some x) = Ok x
-
-abbrev pub demand : Bool → List ℕ → Checked Bool
-demand true why = Ok true
-demand false why = Err why
-
-abbrev pub told_by : {A E : Type 0} → (E → List ℕ) → Result A E → Checked A
-told_by text (Ok x) = Ok x
-told_by text (Err e) = Err (text e)
-
-abbrev pub registry_text : Refusal → List ℕ
-registry_text unknown_role = codes "unknown role"
-registry_text (limit n) = codes "too many bindings"
-registry_text (bad_binding n why) = codes "binding " ++ decimal n ++ codes ": " ++ why_text why
-
--- the most channels of a slot
-abbrev pub channel_limit : ℕ
-channel_limit = 100
-
-abbrev pub binding_of : Asked → Binding
-binding_of a =
-    record {
-      wanted = a.event;
-      schema = a.schema;
-      table = a.table;
-      filters = a.filters.texts;
-      listed = a.filters.listed;
-    }
-
--- the key that a channel tracks under: without one, or with an empty one, the join's number
-abbrev pub key_of : ℕ → List ℕ → List ℕ
-key_of number key = elim (bytes_eq key []) [ true ↦ decimal number | false ↦ key ]
-
--- a channel's join_ref is that of its join, or the join's ref where that is null
-abbrev pub join_ref_of : Message → Json
-join_ref_of m = elim (is_null m.join_ref) [ true ↦ m.reference | false ↦ m.join_ref ]
-
 -- the claims that a payload asks for, at the moment before it
 abbrev pub asked_claims : Settings → Now → Opening → Option Json → Checked Claims
-asked_claims s now o token =
-    let seconds = seconds_of now.moment in
-    or_text (claims_asked s.secret seconds o.claims token) (asked_has_reason s.secret seconds o.claims token)
-
--- nothing, where there is no reason
-abbrev pub unless : Option (List ℕ) → Checked Bool
-unless None = Ok true
-unless (Some why) = Err why
+asked_claims s now o token = claims_or_text s.secret (seconds_of now.moment) o.claims token
 
 -- every channel is private where the catalogue has a messages table, and none where it hasn't
 abbrev pub is_as_private : Catalog → Bool → Bool
@@ -134,11 +77,11 @@ module _ (c : Catalog) (tables : List (List Row)) where
     -- one of the same topic; the tables are those before the join.
     unfoldable pub channel_of_join : ℕ → Opening → ℕ → Message → Checked Channel
     channel_of_join slot o others m =
-        or_why (codes "bad config") (config_of m.payload) >> λ config.
-        demand (is_as_private c config.private) (codes "private channel") >> λ _.
+        or_why bad_config (config_of m.payload) >> λ config.
+        demand (is_as_private c config.private) private_channel >> λ _.
         asked_claims s now o (member_of m.payload (codes "access_token")) >> λ claims.
         standing_for (name_in m.topic) claims >> λ standing.
-        demand (nat_lt others channel_limit) (codes "too many channels") >> λ _.
+        demand (nat_lt others channel_limit) too_many_channels >> λ _.
         told_by registry_text (bindings_for c claims (map binding_of config.bindings)) >> λ bindings.
         Ok (made_channel now slot m config standing bindings)
 

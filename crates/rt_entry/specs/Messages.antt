@@ -6,7 +6,7 @@ use Rattle.rt_json.specs.declared.tree.Json.TheVariants as j
 use Rattle.rt_json.specs.declared.tree.named.Member.{Member}
 use Rattle.rt_json.specs.Trees.{field}
 use Rattle.rt_phx.specs.declared.message.Message.{Message}
-use Rattle.rt_phx.specs.Says.{said_on, close_of, subscribed_payload, failed_payload, number_tree, change_payload}
+use Rattle.rt_phx.specs.Says.{said_on, close_of, subscribed_payload, failed_on, number_tree, change_payload}
 use Rattle.rt_phx.specs.Asks.{name_in}
 use Rattle.rt_presence.specs.Trees.{Held, meta_object, metas_tree, joins_and_leaves}
 use Rattle.rt_registry.specs.declared.binding.Subscribed.{Subscribed}
@@ -27,7 +27,7 @@ abbrev pub subscribed_message : Channel → Message
 subscribed_message c = channel_message c (codes "system") (subscribed_payload (channel_name c))
 
 abbrev pub failed_message : Channel → List ℕ → Message
-failed_message c reason = channel_message c (codes "system") (failed_payload reason (channel_name c))
+failed_message c reason = failed_on c.join_ref c.topic reason
 
 -- filters as the client gave them
 abbrev pub filter_tree : Bool → List (List ℕ) → Option Json

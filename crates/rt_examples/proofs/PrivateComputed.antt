@@ -20,6 +20,7 @@ use Rattle.rt_phx.specs.declared.message.Message.{Message as Said}
 use Rattle.rt_phx.specs.declared.message.Posting.{Posting}
 use Rattle.rt_phx.specs.declared.message.Version.TheVariants.{V1}
 use Rattle.rt_phx.specs.Frame.{message_of, no_members}
+use Rattle.rt_phx.specs.Checked.{◌>>◌, unless}
 use Rattle.rt_catalog.specs.declared.catalog.Catalog.{Catalog}
 use Rattle.rt_private.specs.declared.right.Messages.{Messages}
 use Rattle.rt_private.specs.Rights as private
@@ -31,7 +32,7 @@ use Rattle.rt_entry.specs.declared.answer.Item.TheVariants.{Message}
 use Rattle.rt_entry.specs.declared.story.Standing.{Standing}
 use Rattle.rt_entry.specs.declared.story.Channel.{Channel}
 use Rattle.rt_entry.specs.declared.story.Part.{Part}
-use Rattle.rt_entry.specs.Joining.{◌>>◌, unless, denied}
+use Rattle.rt_entry.specs.Joining.{denied}
 use Rattle.rt_entry.specs.Story.{Story, edits_at, now_of, tables_left}
 use Rattle.rt_entry.specs.Doings.{join_result_parts, posting_parts, doings, story}
 use Rattle.rt_entry.specs.Answers.{Answers, answer_of, answers, answers_by, all_answers, items_for, due}

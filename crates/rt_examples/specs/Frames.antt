@@ -4,6 +4,7 @@ use Rattle.rt_json.specs.declared.tree.Json.TheVariants.{Null, Object}
 use Rattle.rt_phx.specs.declared.message.Message.{Message as Said}
 use Rattle.rt_phx.specs.declared.message.Version.TheVariants.{V1, V2}
 use Rattle.rt_phx.specs.declared.end.EndName.TheVariants.{BadFrame}
+use Rattle.rt_phx.specs.Checked.{Checked}
 use Rattle.rt_entry.specs.declared.input.Input.{Input}
 use Rattle.rt_entry.specs.declared.input.Input.TheVariants.{Opened, Frame}
 use Rattle.rt_entry.specs.declared.story.Opening.{Opening}
@@ -11,7 +12,7 @@ use Rattle.rt_entry.specs.declared.story.Channel.{Channel}
 use Rattle.rt_entry.specs.declared.answer.Item.{Item}
 use Rattle.rt_entry.specs.declared.answer.Item.TheVariants.{Message, End}
 use Rattle.rt_entry.specs.Story.{now_of}
-use Rattle.rt_entry.specs.Joining.{Checked, channel_of_join}
+use Rattle.rt_entry.specs.Joining.{channel_of_join}
 use Rattle.rt_entry.specs.Doings.{story}
 use Rattle.rt_entry.specs.Answers.{due}
 use Rattle.rt_examples.specs.Notes.{notes, settings, authenticated}

@@ -15,16 +15,19 @@ use Rattle.rt_phx.specs.Frame.{message, message_of, message_of_tree, frame_limit
 use Rattle.rt_phx.specs.Joins.{Asked, Config, unlisted, config_of}
 use Rattle.rt_phx.specs.Asks.{is_channel_topic, topic_prefix}
 use Rattle.rt_phx.proofs.Frames.{in_limit}
+use Rattle.rt_phx.specs.Checked.{Checked, ◌>>◌, demand, told_by}
+use Rattle.rt_phx.specs.Limits.{channel_limit}
 use Rattle.rt_value.specs.declared.row.Row.{Row}
 use Rattle.rt_catalog.specs.declared.catalog.Catalog.{Catalog}
 use Rattle.rt_private.specs.Rights.{messages_of, denial}
 use Rattle.rt_registry.specs.declared.binding.Subscribed.{Subscribed}
 use Rattle.rt_registry.specs.Bindings.{Refusal, unknown_role, or_err, bindings_for}
+use Rattle.rt_registry.specs.Asked.{registry_text}
 use Rattle.rt_entry.specs.declared.input.Settings.{Settings}
 use Rattle.rt_entry.specs.declared.story.Standing.{Standing}
 use Rattle.rt_entry.specs.declared.story.Channel.{Channel}
 use Rattle.rt_entry.specs.Story.{Now}
-use Rattle.rt_entry.specs.Joining.{Checked, ◌>>◌, demand, told_by, registry_text, channel_limit, standing_for, channel_of_join}
+use Rattle.rt_entry.specs.Joining.{standing_for, channel_of_join}
 use Rattle.rt_form.specs.Script.{join_tree, payload_tree}
 use Rattle.rt_form.specs.declared.catalogue.Column.{Column}
 use Rattle.rt_first.proofs.Binding.{binding_with, subscribed_with, role_found, bindings_found}

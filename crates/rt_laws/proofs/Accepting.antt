@@ -23,8 +23,10 @@ use Rattle.rt_token.specs.Asked.{claims_asked, asked_has_reason, seconds_of}
 use Rattle.rt_token.specs.Reasons.{IsReason, HasReason, fault_text, or_text}
 use Rattle.rt_phx.specs.declared.message.Message.{Message}
 use Rattle.rt_phx.specs.Fits.{IsRef}
-use Rattle.rt_phx.specs.Joins.{Asked, config_of}
+use Rattle.rt_phx.specs.Joins.{Asked, config_of, key_of, join_ref_of}
 use Rattle.rt_phx.specs.Asks.{topic_prefix, name_in, is_channel_topic}
+use Rattle.rt_phx.specs.Checked.{Checked, ◌>>◌, or_why, demand, told_by, unless}
+use Rattle.rt_phx.specs.Limits.{channel_limit}
 use Rattle.rt_catalog.specs.declared.catalog.Catalog.{Catalog}
 use Rattle.rt_catalog.specs.Access.{role_named, rules_at}
 use Rattle.rt_catalog.specs.Names.{IsReadablePolicy, AreReadableRules, HasReadableNames}
@@ -41,12 +43,12 @@ use Rattle.rt_registry.specs.Bindings as registry
 use Rattle.rt_registry.specs.Bindings.{Refusal, unknown_role, limit, bad_binding, role_for, bindings_for, why_text}
 use Rattle.rt_registry.specs.Bindings.{wanted_of, table_for, tests_for, filters_of, unless_text, or_err}
 use Rattle.rt_registry.specs.Bindings.{meaning_of_binding, at_count, all_from, binding_limit, within_limit}
+use Rattle.rt_registry.specs.Asked.{registry_text, binding_of}
 use Rattle.rt_entry.specs.declared.input.Settings.{Settings}
 use Rattle.rt_entry.specs.declared.story.Opening.{Opening}
 use Rattle.rt_entry.specs.declared.story.Channel.{Channel}
 use Rattle.rt_entry.specs.declared.story.Member.{Member}
-use Rattle.rt_entry.specs.Joining.{Checked, ◌>>◌, or_why, demand, told_by, registry_text, channel_limit, binding_of}
-use Rattle.rt_entry.specs.Joining.{key_of, join_ref_of, asked_claims, unless, is_as_private, denied, standing_for}
+use Rattle.rt_entry.specs.Joining.{asked_claims, is_as_private, denied, standing_for}
 use Rattle.rt_entry.specs.Joining.{channel_of_join, renewal_of, made_channel}
 use Rattle.rt_entry.specs.Story.{Now}
 use Rattle.rt_entry.specs.Readable.{IsReadable}

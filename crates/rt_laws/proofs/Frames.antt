@@ -20,6 +20,7 @@ use Rattle.rt_phx.specs.Says.{reply_ok, reply_error}
 use Rattle.rt_phx.specs.Asks.{Ask, leave, renew, track, untrack, unknown_presence, nothing, ask_of, is_heartbeat}
 use Rattle.rt_phx.specs.Asks.{is_join, is_channel_topic}
 use Rattle.rt_phx.specs.Asks as ask
+use Rattle.rt_phx.specs.Checked.{Checked}
 use Rattle.rt_presence.specs.Trees.{Held}
 use Rattle.rt_catalog.specs.declared.catalog.Catalog.{Catalog}
 use Rattle.rt_entry.specs.declared.input.Settings.{Settings}
@@ -32,7 +33,7 @@ use Rattle.rt_entry.specs.declared.story.Part.{Part}
 use Rattle.rt_entry.specs.declared.story.Part.TheVariants.{Tells, Joins, Renews, Tracks, Untracks}
 use Rattle.rt_entry.specs.Story.{Now, has, departed_by, departed_in, is_last}
 use Rattle.rt_entry.specs.Messages.{presence_state, presence_diff, subscribed_message, joined_response, shown_meta}
-use Rattle.rt_entry.specs.Joining.{Checked, channel_of_join, renewal_of}
+use Rattle.rt_entry.specs.Joining.{channel_of_join, renewal_of}
 use Rattle.rt_entry.specs.Doings.{tell, in_turn, watches, is_of_slot, channels_of, end_of, is_on, channel_on, track_of}
 use Rattle.rt_entry.specs.Doings.{diffs, leave_diffs, close, fail, tell_if, has_bindings, present_on, accept_parts}
 use Rattle.rt_entry.specs.Doings.{join_result_parts, others, renewal_parts, gets_broadcast, broadcast_part}

@@ -10,17 +10,19 @@ use Rattle.rt_json.specs.Lookup.{member_of}
 use Rattle.rt_phx.specs.declared.message.Message.{Message}
 use Rattle.rt_phx.specs.Joins.{config_of}
 use Rattle.rt_phx.specs.Asks.{name_in}
+use Rattle.rt_phx.specs.Checked.{Checked, ◌>>◌, or_why, demand, told_by, unless}
+use Rattle.rt_phx.specs.Limits.{channel_limit}
 use Rattle.rt_catalog.specs.declared.catalog.Catalog.{Catalog}
 use Rattle.rt_registry.specs.declared.binding.Subscribed.{Subscribed}
 use Rattle.rt_registry.specs.Bindings.{Refusal, role_for, bindings_for}
+use Rattle.rt_registry.specs.Asked.{registry_text, binding_of}
 use Rattle.rt_private.specs.Rights as private
 use Rattle.rt_entry.specs.declared.input.Settings.{Settings}
 use Rattle.rt_entry.specs.declared.story.Opening.{Opening}
 use Rattle.rt_entry.specs.declared.story.Standing.{Standing}
 use Rattle.rt_entry.specs.declared.story.Channel.{Channel}
 use Rattle.rt_entry.specs.Story.{Now}
-use Rattle.rt_entry.specs.Joining.{Checked, ◌>>◌, or_why, demand, told_by, registry_text, channel_limit, binding_of}
-use Rattle.rt_entry.specs.Joining.{asked_claims, unless, is_as_private, denied, standing_for}
+use Rattle.rt_entry.specs.Joining.{asked_claims, is_as_private, denied, standing_for}
 use Rattle.rt_entry.specs.Joining.{channel_of_join, renewal_of, made_channel}
 use Rattle.rt_laws.specs.Private.{IsJudged, IsAdmitted}
 

@@ -1,9 +1,12 @@
 -- What a join's payload asks for, or that it is a bad config (the Realtime protocol, "Joining a channel").
 use Rattle.std.specs.Prelude.{ℕ, Bool, true, false, List, [], ◌∷◌, codes, Option, Some, None, option_map, unwrap_or}
+use Rattle.std.specs.Fmt.{decimal}
+use Rattle.std.specs.Str.{bytes_eq}
 use Rattle.rt_value.specs.Choice.{◌>>=◌, some_if}
 use Rattle.rt_json.specs.declared.tree.Json.{Json, Null, Bool as Truth, Text}
 use Rattle.rt_json.specs.Lookup.{member_of}
-use Rattle.rt_json.specs.Trees.{is_object, list_of, text_of}
+use Rattle.rt_json.specs.Trees.{is_null, is_object, list_of, text_of}
+use Rattle.rt_phx.specs.declared.message.Message.{Message}
 use Rattle.rt_phx.specs.Frame.{no_members}
 
 -- an object, or nothing where it is null or absent
@@ -105,3 +108,11 @@ config_of payload =
     switch false (member_of config (codes "private")) >>= λ private.
     all_asked (member_of config (codes "postgres_changes")) >>= λ bindings.
     Some (record { ack = ack; own = own; presence = enabled; key = key; private = private; bindings = bindings })
+
+-- the key that a channel tracks under: without one, or with an empty one, the join's number
+abbrev pub key_of : ℕ → List ℕ → List ℕ
+key_of number key = elim (bytes_eq key []) [ true ↦ decimal number | false ↦ key ]
+
+-- a channel's join_ref is that of its join, or the join's ref where that is null
+abbrev pub join_ref_of : Message → Json
+join_ref_of m = elim (is_null m.join_ref) [ true ↦ m.reference | false ↦ m.join_ref ]

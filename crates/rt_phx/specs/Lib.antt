@@ -1,8 +1,10 @@
 pub mod Answers
 pub mod Asks
+pub mod Checked
 pub mod Fits
 pub mod Frame
 pub mod Joins
+pub mod Limits
 pub mod Parts
 pub mod Posts
 pub mod Says

@@ -8,6 +8,7 @@ use Rattle.rt_json.specs.Trees.{field}
 use Rattle.rt_phx.specs.declared.message.Message.{Message}
 use Rattle.rt_phx.specs.declared.end.EndName.{EndName}
 use Rattle.rt_phx.specs.declared.end.EndName.TheVariants.{Gone, BadFrame, Idle, Replaced, Stopped, OutboxFull}
+use Rattle.rt_phx.specs.Asks.{name_in}
 use Rattle.rt_phx.specs.Frame.{message, no_members}
 
 -- a reply has the frame's topic and ref; the join_ref is the channel's, or the frame's where there is no channel
@@ -47,6 +48,10 @@ subscribed_payload channel = system_payload (codes "Subscribed to PostgreSQL") (
 -- why a channel closes
 abbrev pub failed_payload : List ℕ → List ℕ → Json
 failed_payload reason channel = system_payload reason (codes "error") (codes "system") channel
+
+-- on a channel, by its join_ref and topic
+abbrev pub failed_on : Json → List ℕ → List ℕ → Message
+failed_on join_ref topic reason = said_on join_ref topic (codes "system") (failed_payload reason (name_in topic))
 
 abbrev pub number_tree : ℕ → Json
 number_tree n = Num (decimal n)

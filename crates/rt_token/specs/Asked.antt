@@ -5,7 +5,7 @@ use Rattle.rt_json.specs.declared.tree.Json.{Json, Null, Bool as Truth, Num, Tex
 use Rattle.rt_token.specs.declared.fault.TokenFault.{TokenFault}
 use Rattle.rt_token.specs.declared.fault.TokenFault.TheVariants.{Shape, Expired}
 use Rattle.rt_token.specs.Claims.{◌>>◌, ensure, is_expired}
-use Rattle.rt_token.specs.Reasons.{HasReason, then_has_reason, true_has_reason, token_has_reason}
+use Rattle.rt_token.specs.Reasons.{HasReason, or_text, then_has_reason, true_has_reason, token_has_reason}
 use Rattle.rt_token.specs.Tokens.{claims_in_token}
 
 -- a moment in whole seconds
@@ -42,3 +42,8 @@ asked_has_reason secret seconds given asked = by asked
     by (Some (Num digits)) = tt
     by (Some (List' shape row)) = tt
     by (Some (Object' shape row)) = tt
+
+-- the claims that are asked for, or the text of the reason why there are none
+abbrev pub claims_or_text : List ℕ → ℕ → Claims → Option Json → Result Claims (List ℕ)
+claims_or_text secret seconds given asked =
+    or_text (claims_asked secret seconds given asked) (asked_has_reason secret seconds given asked)
