@@ -1,3 +1,4 @@
+use crate::ChannelViews;
 use rt_change::Change;
 use rt_json::Json;
 use rt_phx::{EndName, Message, Version};
@@ -31,9 +32,9 @@ pub enum Entry {
         /// The tables at the poll's end.
         tables: Shared<Tables>,
         /// The subscriptions before the poll, by id.
-        subscriptions: Shared<Subscriptions>,
+        subscriptions: Subscriptions,
         /// The channels, in the order of their joins.
-        channels: Shared<List<ChannelView>>,
+        channels: ChannelViews,
     },
     /// A slot is told a message.
     Notice {
