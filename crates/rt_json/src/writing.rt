@@ -1,9 +1,12 @@
-ghost use Rattle.std.specs.Prelude.{◌≡◌, ◌++◌, ◌∷◌, [], ◌<◌, flat_map, OnOk, IfOk, IsUtf8};
+ghost use Rattle.std.specs.Prelude.{◌≡◌, ◌++◌, ◌∷◌, [], ◌<◌, List, flat_map};
+ghost use Rattle.std.specs.Prelude.{OnOk, OnErr, IfOk, IsUtf8};
+ghost use Rattle.std.specs.Io.{StartsWith};
 ghost use Rattle.std.specs.List.{AllByRecursion};
 ghost use Rattle.rt_json.specs.Written.{written, written_member, listed, quoted, written_byte, hex_digit, comma_before};
 ghost use Rattle.rt_json.specs.Fits.{FitsWithin, HasUtf8Texts, HasUtf8Member, IsWellNested};
 ghost use Rattle.rt_json.specs.Grammar.{IsJson, max_levels};
 ghost use Rattle.rt_json.specs.declared.tree.Json.{Json};
+ghost use Rattle.rt_json.specs.declared.tree.named.Member.{Member};
 
 use crate::scan::past_plain;
 use crate::tree::Json;
@@ -23,7 +26,8 @@ fn hex_digit(value: u8) -> u8
 
 #[tactic(auto, unfolding(crate::specs::Written::written_byte))]
 fn write_byte(out: &mut Vec<u8>, byte: u8) -> Result<(), AllocError>
-    ensures { OnOk result (out.new.items ≡ out.old.items ++ written_byte byte) }
+    ensures spelling { OnOk result (out.new.items ≡ out.old.items ++ written_byte byte) }
+    ensures kept { OnErr result (out.new.items ≡ out.old.items) }
 {
     match byte {
         b'"' | b'\\' => out.extend_from_slice(&[b'\\', byte]),
@@ -46,7 +50,8 @@ fn write_byte(out: &mut Vec<u8>, byte: u8) -> Result<(), AllocError>
 
 /// A text in quotes: runs of bytes that stand for themselves, and what stands for each byte between them.
 fn write_text(out: &mut Vec<u8>, text: &[u8]) -> Result<(), AllocError>
-    ensures { OnOk result (out.new.items ≡ out.old.items ++ quoted text.now) }
+    ensures spelling { OnOk result (out.new.items ≡ out.old.items ++ quoted text.now) }
+    ensures kept { StartsWith out.new.items out.old.items }
 {
     out.push(b'"')?;
     let mut at = 0;
@@ -59,6 +64,23 @@ fn write_text(out: &mut Vec<u8>, text: &[u8]) -> Result<(), AllocError>
         }
         write_byte(out, text[next])?;
         at = next + 1;
+    }
+}
+
+/// Writes a text in quotes behind what is there, as `write` spells it. Fails for want of memory
+/// alone, and then the bytes are as they were.
+pub fn write_text_behind(bytes: &mut Vec<u8>, text: &str) -> Result<(), AllocError>
+    ensures spelling { OnOk result (bytes.new.items ≡ bytes.old.items ++ quoted text.now) }
+    ensures kept { OnErr result (bytes.new.items ≡ bytes.old.items) }
+    ensures utf8 { IsUtf8 bytes.old.items → IsUtf8 bytes.new.items }
+{
+    let length = bytes.len();
+    match write_text(bytes, text.as_bytes()) {
+        Ok(()) => Ok(()),
+        Err(fault) => {
+            bytes.truncate(length);
+            Err(fault)
+        }
     }
 }
 
@@ -156,4 +178,13 @@ pub fn write(alloc: Global, tree: &Json) -> Result<Bytes, AllocError>
 /// are numbers of the grammar and its texts are UTF-8.
 pub fn written_again()
     ensures { (tree : Json) → FitsWithin max_levels tree → IsJson (written tree) tree }
+{}
+
+/// A list is spelled by its items and an object by its members, with commas between them. So a
+/// spelling can be put together from parts that are spelled already.
+pub fn written_by_parts()
+    ensures list { (items : List Json)
+        → written (Json.List items) ≡ 91 ∷ listed written items ++ 93 ∷ [] }
+    ensures object { (members : List Member)
+        → written (Json.Object members) ≡ 123 ∷ listed written_member members ++ 125 ∷ [] }
 {}

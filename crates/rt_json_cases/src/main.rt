@@ -1,8 +1,9 @@
 //! Which trees texts of JSON are, and how trees are spelled.
 //!
 //! After `read` comes a text: the answer is the spelling of its tree, or its fault. After `copy` the
-//! answer is the spelling of a copy, after `member NAME` that of the member of that name, and after
-//! `behind WORD` the word with the spelling behind it.
+//! answer is the spelling of a copy, after `member NAME` that of the member of that name, after
+//! `behind WORD` the word with the spelling behind it, and after `quoted WORD` the word with the
+//! text itself in quotes behind it.
 #![tactic(auto)]
 
 mod trees;
@@ -27,6 +28,7 @@ fn answer_text(alloc: Global, case: &str) -> io::Result<String> {
     match question {
         "member" => trees::found(alloc, word, text),
         "behind" => trees::behind(alloc, word, text),
+        "quoted" => trees::quoted_behind(alloc, word, text),
         _ => Err(io::ErrorKind::InvalidInput.into()),
     }
 }

@@ -1,5 +1,5 @@
 use case_lines::text_of;
-use rt_json::{Json, JsonFault, member, read, write, write_behind};
+use rt_json::{Json, JsonFault, member, read, write, write_behind, write_text_behind};
 use std::alloc::Global;
 use std::io;
 
@@ -31,6 +31,13 @@ pub fn found(alloc: Global, name: &str, text: &str) -> io::Result<String> {
 pub fn behind(alloc: Global, word: &str, text: &str) -> io::Result<String> {
     let tree = tree(alloc, text)?;
     let bytes = write_behind(Vec::from_slice(alloc, word.as_bytes())?, &tree)?;
+    Ok(String::from_str(alloc, text_of(bytes.as_slice())?)?)
+}
+
+/// A word, and behind it a text in quotes.
+pub fn quoted_behind(alloc: Global, word: &str, text: &str) -> io::Result<String> {
+    let mut bytes = Vec::from_slice(alloc, word.as_bytes())?;
+    write_text_behind(&mut bytes, text)?;
     Ok(String::from_str(alloc, text_of(bytes.as_slice())?)?)
 }
 

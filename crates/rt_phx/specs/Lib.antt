@@ -6,3 +6,4 @@ pub mod Joins
 pub mod Parts
 pub mod Posts
 pub mod Says
+pub mod Spliced

@@ -99,7 +99,8 @@ fn changed(
     Ok(change(alloc, join_ref, topic, ids.as_slice(), data)?)
 }
 
-fn numbers(alloc: Global, text: &str) -> io::Result<Vec<u64>> {
+/// Numbers with a blank between two.
+pub fn numbers(alloc: Global, text: &str) -> io::Result<Vec<u64>> {
     let mut numbers = Vec::new(alloc);
     for digits in text.split(' ') {
         let Ok(number) = digits.parse::<u64>() else {

@@ -13,7 +13,7 @@ returns c =
     record {
       spelling =
           subst (λ (xs : List ℕ). IfOk c.with_str.result (λ all. all.items ≡ xs))
-          (list_out c.args.message.now _ _ _ _ _ _ e0 e1.spelling e2.spelling e3.spelling e4.spelling e5.spelling)
+          (list_out _ _ _ _ _ _ _ e0 e1.spelling e2.spelling e3.spelling e4.spelling e5.spelling)
           c.with_str.ensures.spelling;
       utf8 = utf8_behind c.with_str.result (λ all. all.items) _
           (e5.utf8 (e4.utf8 (e3.utf8 (e2.utf8 (e1.utf8 (no_bytes _ e0)))))) c.with_str.ensures.utf8;
