@@ -12,9 +12,9 @@ use Rattle.rt_value.specs.contracts.text.Text as Text
 use Rattle.rt_value.proofs.Crossing.{List-send, List-sync, Shared-send, Shared-sync}
 use Rattle.rt_json.specs.contracts.tree.Json as Json
 use Rattle.rt_phx.specs.contracts.end.EndName as EndName
-use Rattle.rt_phx.specs.contracts.message.Message as Message
 use Rattle.rt_phx.specs.contracts.message.Posting as Posting
 use Rattle.rt_phx.specs.contracts.message.Version as Version
+use Rattle.rt_phx.specs.contracts.said.Said as Said
 use Rattle.rt_change.specs.contracts.change.Change as Change
 use Rattle.rt_registry.specs.contracts.subscriptions.Subscriptions as Subscriptions
 use Rattle.rt_replica.specs.contracts.tables.Tables as Tables
@@ -59,7 +59,7 @@ module _ (version : Crosses Version.the_row) (claims : Crosses Claims.the_row) (
         (search (wholes, shared_sync, version.1, claims.1, bytes.1, posting.1, changes.0, changes.1) depth 10),
   )
 
-module _ (version : Crosses Version.the_row) (name : Crosses EndName.the_row) (message : Crosses Message.the_row)
+module _ (version : Crosses Version.the_row) (name : Crosses EndName.the_row) (said : Crosses Said.the_row)
     (changes : Crosses Changes) (tables : Crosses Tables.the_row) (subscriptions : Crosses Subscriptions.the_row)
     (views : Crosses ChannelViews.the_row) where
   pub Entry-crosses : Crosses Entry.the_row
@@ -70,7 +70,7 @@ module _ (version : Crosses Version.the_row) (name : Crosses EndName.the_row) (m
           shared_send,
           version.0,
           name.0,
-          message.0,
+          said.0,
           changes.0,
           changes.1,
           tables.0,
@@ -84,7 +84,7 @@ module _ (version : Crosses Version.the_row) (name : Crosses EndName.the_row) (m
           shared_sync,
           version.1,
           name.1,
-          message.1,
+          said.1,
           changes.0,
           changes.1,
           tables.0,

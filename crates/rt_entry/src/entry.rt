@@ -1,7 +1,7 @@
 use crate::ChannelViews;
 use rt_change::Change;
 use rt_json::Json;
-use rt_phx::{EndName, Message, Version};
+use rt_phx::{EndName, Said, Version};
 use rt_registry::Subscriptions;
 use rt_replica::Tables;
 use rt_value::{List, Shared, Text};
@@ -41,7 +41,7 @@ pub enum Entry {
         /// Who is told.
         slot: u32,
         /// What is told.
-        message: Message,
+        message: Said,
     },
     /// A slot is open from here on.
     Opened {

@@ -13,6 +13,6 @@ returns-clause-input c =
 pub returns-clause-entry : goal.returns-clause-entry
 returns-clause-entry c =
     let messages = c.messages_may_be_shared.ensures in
-    Entry-crosses messages.version messages.end_name messages.message (changes_cross c.changes_may_be_shared.ensures)
+    Entry-crosses messages.version messages.end_name messages.said (changes_cross c.changes_may_be_shared.ensures)
     c.tables_may_be_shared.ensures c.subscriptions_may_be_shared.ensures.subscriptions
     c.views_may_be_shared.ensures.views
