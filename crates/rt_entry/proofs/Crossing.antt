@@ -12,22 +12,27 @@ use Rattle.rt_value.specs.contracts.text.Text as Text
 use Rattle.rt_value.proofs.Crossing.{List-send, List-sync, Shared-send, Shared-sync}
 use Rattle.rt_json.specs.contracts.tree.Json as Json
 use Rattle.rt_phx.specs.contracts.end.EndName as EndName
-use Rattle.rt_phx.specs.contracts.message.Message as Message
 use Rattle.rt_phx.specs.contracts.message.Posting as Posting
 use Rattle.rt_phx.specs.contracts.message.Version as Version
+use Rattle.rt_phx.specs.contracts.said.Said as Said
 use Rattle.rt_change.specs.contracts.change.Change as Change
 use Rattle.rt_registry.specs.contracts.subscriptions.Subscriptions as Subscriptions
 use Rattle.rt_replica.specs.contracts.tables.Tables as Tables
 use Rattle.rt_entry.specs.contracts.entry.ChannelView as ChannelView
 use Rattle.rt_entry.specs.contracts.entry.Entry as Entry
 use Rattle.rt_entry.specs.contracts.input.Input as Input
+use Rattle.rt_entry.specs.contracts.views.ChannelViews as ChannelViews
 use Rattle.rt_entry.proofs.Variants.{enum_sends, enum_syncs}
 
 abbrev pub Crosses : RattleType → Type 0
 Crosses T = IsSend T × IsSync T
 
-list_crosses : (T : RattleType) → Crosses T → Crosses (List.the_row T)
-list_crosses T c = (List-send T c.0, List-sync T c.1)
+-- the changes of a poll
+abbrev Changes : RattleType
+Changes = List.the_row Change.the_row
+
+pub changes_cross : Crosses Change.the_row → Crosses Changes
+changes_cross c = (List-send Change.the_row c.0, List-sync Change.the_row c.1)
 
 shared_send : (T : RattleType) → IsSend T → IsSync T → IsSend (as_row (Shared.the_field T))
 shared_send T s y = as_row_send (Shared.the_field T) (Shared-send T s y)
@@ -45,24 +50,18 @@ module _ (text : Crosses Text.the_row) (json : Crosses Json.the_row) where
   )
 
 module _ (version : Crosses Version.the_row) (claims : Crosses Claims.the_row) (bytes : Crosses Bytes.the_row)
-    (posting : Crosses Posting.the_row) (change : Crosses Change.the_row) where
+    (posting : Crosses Posting.the_row) (changes : Crosses Changes) where
   pub Input-crosses : Crosses Input.the_row
   Input-crosses = (
     enum_sends Input.the_type _ (λ d. refl)
-        (search (wholes, version.0, claims.0, bytes.0, posting.0, change.0) depth 10),
+        (search (wholes, shared_send, version.0, claims.0, bytes.0, posting.0, changes.0, changes.1) depth 10),
     enum_syncs Input.the_type _ (λ d. refl)
-        (search (wholes, version.1, claims.1, bytes.1, posting.1, change.1) depth 10),
+        (search (wholes, shared_sync, version.1, claims.1, bytes.1, posting.1, changes.0, changes.1) depth 10),
   )
 
-module _ (version : Crosses Version.the_row) (name : Crosses EndName.the_row) (message : Crosses Message.the_row)
-    (change : Crosses Change.the_row) (tables : Crosses Tables.the_row) (subscriptions : Crosses Subscriptions.the_row)
-    (view : Crosses ChannelView.the_row) where
-  changes : Crosses (List.the_row Change.the_row)
-  changes = list_crosses Change.the_row change
-
-  views : Crosses (List.the_row ChannelView.the_row)
-  views = list_crosses ChannelView.the_row view
-
+module _ (version : Crosses Version.the_row) (name : Crosses EndName.the_row) (said : Crosses Said.the_row)
+    (changes : Crosses Changes) (tables : Crosses Tables.the_row) (subscriptions : Crosses Subscriptions.the_row)
+    (views : Crosses ChannelViews.the_row) where
   pub Entry-crosses : Crosses Entry.the_row
   Entry-crosses = (
     enum_sends Entry.the_type _ (λ d. refl)
@@ -71,15 +70,13 @@ module _ (version : Crosses Version.the_row) (name : Crosses EndName.the_row) (m
           shared_send,
           version.0,
           name.0,
-          message.0,
+          said.0,
           changes.0,
           changes.1,
           tables.0,
           tables.1,
           subscriptions.0,
-          subscriptions.1,
           views.0,
-          views.1,
         ) depth 10),
     enum_syncs Entry.the_type _ (λ d. refl)
         (search (
@@ -87,14 +84,12 @@ module _ (version : Crosses Version.the_row) (name : Crosses EndName.the_row) (m
           shared_sync,
           version.1,
           name.1,
-          message.1,
+          said.1,
           changes.0,
           changes.1,
           tables.0,
           tables.1,
-          subscriptions.0,
           subscriptions.1,
-          views.0,
           views.1,
         ) depth 10),
   )

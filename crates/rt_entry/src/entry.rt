@@ -1,6 +1,7 @@
+use crate::ChannelViews;
 use rt_change::Change;
 use rt_json::Json;
-use rt_phx::{EndName, Message, Version};
+use rt_phx::{EndName, Said, Version};
 use rt_registry::Subscriptions;
 use rt_replica::Tables;
 use rt_value::{List, Shared, Text};
@@ -31,16 +32,16 @@ pub enum Entry {
         /// The tables at the poll's end.
         tables: Shared<Tables>,
         /// The subscriptions before the poll, by id.
-        subscriptions: Shared<Subscriptions>,
+        subscriptions: Subscriptions,
         /// The channels, in the order of their joins.
-        channels: Shared<List<ChannelView>>,
+        channels: ChannelViews,
     },
     /// A slot is told a message.
     Notice {
         /// Who is told.
         slot: u32,
         /// What is told.
-        message: Message,
+        message: Said,
     },
     /// A slot is open from here on.
     Opened {

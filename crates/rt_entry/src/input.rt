@@ -1,6 +1,6 @@
 use rt_change::Change;
 use rt_phx::{Posting, Version};
-use rt_value::{Bytes, Claims, List};
+use rt_value::{Bytes, Claims, List, Shared};
 
 /// What the journal takes.
 #[derive(Drop)]
@@ -38,7 +38,7 @@ pub enum Input {
     /// One batch of the stream, as the changes of its records.
     Poll {
         /// The changes, in the order of their records.
-        changes: List<Change>,
+        changes: Shared<List<Change>>,
     },
     /// The clock's moment in milliseconds.
     Tick {

@@ -8,9 +8,11 @@ mod input;
 pub mod laws;
 mod sharing;
 mod story;
+mod views;
 
 pub use answer::{Answer, Item};
 pub use entry::{ChannelView, Entry};
 pub use input::{Input, Settings, Step};
-pub use sharing::handed_may_be_shared;
+pub use sharing::{handed_may_be_shared, views_may_be_shared};
 pub use story::{Channel, Member, Opening, Part, Standing, Track};
+pub use views::ChannelViews;

@@ -58,7 +58,7 @@ pub struct Channel {
 #[derive(Drop)]
 pub struct Member {
     /// The channel as it was joined.
-    pub channel: Channel,
+    pub channel: Shared<Channel>,
     /// By the claims of its last accepted renewal, or of its join.
     pub standing: Standing,
 }

@@ -4,3 +4,4 @@ pub mod Pieces
 pub mod Parts
 pub mod Orderly
 pub mod Walk
+pub mod Sharing
