@@ -1,16 +1,15 @@
 -- A set of dots as a map whose keys are the dots.
-use Rattle.std.proofs.Common.{◌≡◌, Bool, true, false, ◌||◌, cond, List, [], ◌∷◌, Option, Some, is_some, refl, sym, ap, ◌∙◌}
+use Rattle.std.proofs.Common.{◌≡◌, Bool, true, false, ◌||◌, cond, List, [], ◌∷◌, Option, Some, is_some, refl, ap, ◌∙◌}
 use Rattle.std.specs.BTreeMap.{is_at}
 use Rattle.std.specs.Map.{keys_of}
-use Rattle.rt_ptree.specs.Entries.{Updates, value_at}
+use Rattle.rt_ptree.specs.Entries.{value_at}
 use Rattle.rt_cluster.specs.declared.dots.Dot.{Dot}
 use Rattle.rt_cluster.specs.Operations.{is_dot, is_among}
 use Rattle.rt_cluster.specs.Index.{dot_cmp}
 use Rattle.rt_cluster.proofs.Indexed.{at_is_dot}
-use Rattle.rt_cluster.proofs.Taking.{dot_sym}
 
 module _ {V : Type 0} where
-  pub some_or : (b : Bool) (v : V) (o : Option V) → is_some (cond b (Some v) o) ≡ (b || is_some o)
+  some_or : (b : Bool) (v : V) (o : Option V) → is_some (cond b (Some v) o) ≡ (b || is_some o)
   some_or true v o = refl
   some_or false v o = refl
 
@@ -20,12 +19,3 @@ module _ {V : Type 0} where
       some_or (is_at (dot_cmp d) e.0) e.1 (value_at dot_cmp es d)
       ∙ ap (λ b. b || is_some (value_at dot_cmp es d)) (at_is_dot d e.0)
       ∙ ap (λ b. is_dot d e.0 || b) (has_key es d)
-
-  pub key_added : (before after : List (Dot × V)) (d : Dot) (v : V) → Updates dot_cmp before after d (Some v)
-      → (e : Dot)
-      → is_among (keys_of after) e ≡ (is_dot e d || is_among (keys_of before) e)
-  key_added before after d v updates e =
-      sym (has_key after e) ∙ ap is_some (updates e)
-      ∙ some_or (is_at (dot_cmp d) e) v (value_at dot_cmp before e)
-      ∙ ap (λ b. b || is_some (value_at dot_cmp before e)) (at_is_dot d e ∙ dot_sym d e)
-      ∙ ap (λ b. is_dot e d || b) (has_key before e)

@@ -11,4 +11,5 @@ pub mod Blocks
 pub mod DotKeys
 pub mod Fronts
 pub mod Doing
-pub mod RunLists
+pub mod RangeLists
+pub mod RangeChanges

@@ -3,5 +3,5 @@ pub mod Shown
 pub mod Standing
 pub mod Laws
 pub mod Index
-pub mod Runs
+pub mod Ranges
 pub mod Examples

@@ -7,8 +7,8 @@ pub mod examples;
 pub mod laws;
 mod merging;
 mod places;
+mod ranges;
 mod replica;
-mod runs;
 mod seen;
 mod walks;
 

@@ -1,5 +1,5 @@
 //! The marks of a replica by their places, and their places by their dots.
-ghost use Rattle.std.specs.Prelude.{◌≡◌, ℕ, None, Some, IfOk, OnOk, cond};
+ghost use Rattle.std.specs.Prelude.{◌≡◌, ℕ, None, Some, IfOk, OnOk, OnErr, cond};
 ghost use Rattle.std.specs.Arc.{arc_value};
 ghost use Rattle.rt_ptree.specs.Entries.{Updates};
 ghost use Rattle.rt_cluster.specs.Operations.{is_dot};
@@ -32,7 +32,9 @@ pub fn insert<K: Ord + Drop, V: Drop>(
     key: Arc<K>,
     value: Arc<V>,
 ) -> Result<(), AllocError>
-    ensures { OnOk result (Updates K.cmp map.old map.new (arc_value key) (Some (arc_value value))) }
+    ensures ok { OnOk result
+        (Updates K.cmp map.old map.new (arc_value key) (Some (arc_value value))) }
+    ensures err { OnErr result (map.new ≡ map.old) }
 {
     match map.insert(key, value) {
         Ok(()) => Ok(()),

@@ -4,27 +4,28 @@ ghost use Rattle.rt_cluster.specs.Operations.{is_dot, is_among};
 ghost use Rattle.rt_cluster.specs.declared.dots.Dot.{Dot as DotData};
 
 use crate::dots::Dot;
-use crate::runs::{Others, Runs, add_in, dots_in, has_in};
+use crate::ranges::{Ranges, add_in, dots_in, has_in};
 use rt_ptree::Tree;
 use std::alloc::{AllocError, Global};
 use std::marker::Model;
 
-/// A set of dots: of each node those from 1 on up to a last one, and single dots beyond. Contracts
-/// see a list of them.
+/// A set of dots, as ranges: each has the dots of a node from a first number up to a last one.
+/// Contracts see a list of them.
 #[derive(Drop)]
 pub struct Seen {
-    runs: Runs,
-    others: Others,
+    ranges: Ranges,
 }
 
 impl Model for Seen {
     ghost use Rattle.std.specs.Prelude.{List};
-    ghost use Rattle.rt_cluster.specs.Runs.{dots_in};
+    ghost use Rattle.rt_cluster.specs.Ranges.{dots_in, AreRanges};
     ghost use Rattle.rt_cluster.specs.declared.dots.Dot.{Dot};
 
     ghost Value = { List Dot };
 
-    ghost view = { λ s. dots_in s.runs s.others };
+    ghost view = { λ s. dots_in s.ranges };
+
+    ghost invariant = { λ s. AreRanges s.ranges };
 }
 
 impl Seen {
@@ -33,8 +34,7 @@ impl Seen {
         ensures { result ≡ [] }
     {
         Seen {
-            runs: Tree::new(alloc),
-            others: Tree::new(alloc),
+            ranges: Tree::new(alloc),
         }
     }
 
@@ -42,18 +42,15 @@ impl Seen {
     pub fn snapshot(&self) -> Result<Self, AllocError>
         ensures { IfOk result (λ s. s ≡ self.now) }
     {
-        let runs = self.runs.snapshot()?;
-        let others = self.others.snapshot()?;
-        Ok(Seen { runs, others })
+        let ranges = self.ranges.snapshot()?;
+        Ok(Seen { ranges })
     }
 
     /// Whether the dot is in the set.
     pub fn has(&self, dot: &Dot) -> bool
         ensures { result ≡ is_among self.now dot.now }
     {
-        // A map's length tells a proof that its keys rise.
-        let _len = self.runs.len();
-        has_in(&self.runs, &self.others, dot)
+        has_in(&self.ranges, dot)
     }
 
     /// Puts the dot in.
@@ -61,9 +58,7 @@ impl Seen {
         ensures { OnOk result ((d : DotData) →
             is_among self.new d ≡ (is_dot d dot.now || is_among self.old d)) }
     {
-        let _before = self.runs.len();
-        add_in(alloc, &mut self.runs, &mut self.others, dot)?;
-        let _after = self.runs.len();
+        add_in(alloc, &mut self.ranges, dot)?;
         Ok(())
     }
 
@@ -72,7 +67,7 @@ impl Seen {
         ensures { IfOk result (λ dots. (d : DotData) →
             is_among dots.items d ≡ is_among self.now d) }
     {
-        let dots = dots_in(alloc, &self.runs, &self.others)?;
+        let dots = dots_in(alloc, &self.ranges)?;
         Ok(dots)
     }
 }

@@ -1,0 +1,131 @@
+//! What a node knows, as the marks and the names of those that are gone, each in a set.
+use rt_cluster::Dot;
+use std::alloc::{AllocError, Global};
+use std::collections::{BTreeMap, BTreeSet};
+
+/// How many topics and keys there are.
+pub const TOPICS: u32 = 4;
+
+pub const KEYS: u32 = 8;
+
+/// What a track shows.
+#[derive(Clone, Copy, PartialEq, Eq, Debug, Drop)]
+pub struct Shown {
+    pub topic: u32,
+    pub key: u32,
+    pub value: u32,
+}
+
+/// What one operation does.
+#[derive(Drop)]
+pub struct Deed {
+    pub made: Option<(Dot, Shown)>,
+    pub gone: Vec<Dot>,
+}
+
+#[derive(Drop)]
+pub struct Model {
+    marks: BTreeMap<Dot, Shown>,
+    gone: BTreeSet<Dot>,
+}
+
+impl Model {
+    pub fn new(alloc: Global) -> Self {
+        Model {
+            marks: BTreeMap::new(alloc),
+            gone: BTreeSet::new(alloc),
+        }
+    }
+
+    /// The node's own dots under the key of the topic, or all of the node's.
+    pub fn dots(
+        &self,
+        alloc: Global,
+        node: u32,
+        place: Option<(u32, u32)>,
+    ) -> Result<Vec<Dot>, AllocError> {
+        let mut dots = Vec::new(alloc);
+        for (dot, shown) in &self.marks {
+            let there = match place {
+                None => true,
+                Some((topic, key)) => shown.topic == topic && shown.key == key,
+            };
+            if dot.node == node && there {
+                dots.push(*dot)?;
+            }
+        }
+        Ok(dots)
+    }
+
+    pub fn hear_of_mark(&mut self, dot: Dot, shown: Shown) -> Result<(), AllocError> {
+        if self.gone.contains(&dot) {
+            return Ok(());
+        }
+        match self.marks.insert(dot, shown) {
+            Ok(_) => Ok(()),
+            Err(_) => Err(AllocError),
+        }
+    }
+
+    pub fn hear_of_gone(&mut self, dot: Dot) -> Result<(), AllocError> {
+        self.marks.remove(&dot);
+        match self.gone.insert(dot) {
+            Ok(_) => Ok(()),
+            Err(_) => Err(AllocError),
+        }
+    }
+
+    pub fn hear(&mut self, deed: &Deed) -> Result<(), AllocError> {
+        if let Some((dot, shown)) = deed.made {
+            self.hear_of_mark(dot, shown)?;
+        }
+        for dot in &deed.gone {
+            self.hear_of_gone(*dot)?;
+        }
+        Ok(())
+    }
+
+    pub fn hear_all(&mut self, other: &Model) -> Result<(), AllocError> {
+        for dot in &other.gone {
+            self.hear_of_gone(*dot)?;
+        }
+        for (dot, shown) in &other.marks {
+            self.hear_of_mark(*dot, *shown)?;
+        }
+        Ok(())
+    }
+
+    /// The state of a topic, as it is written.
+    pub fn state(&self, alloc: Global, topic: u32) -> Result<String, AllocError> {
+        let mut state = String::from_str(alloc, "{")?;
+        for key in 0..KEYS {
+            let metas = self.metas(alloc, topic, key)?;
+            if !metas.is_empty() {
+                if state.len() > 1 {
+                    state.push_str(",")?;
+                }
+                let member = format!(in alloc; "\"k{key}\":{{\"metas\":[{metas}]}}")?;
+                state.push_str(member.as_str())?;
+            }
+        }
+        state.push_str("}")?;
+        Ok(state)
+    }
+
+    fn metas(&self, alloc: Global, topic: u32, key: u32) -> Result<String, AllocError> {
+        let mut metas = String::new(alloc);
+        for (dot, shown) in &self.marks {
+            if shown.topic == topic && shown.key == key {
+                if !metas.is_empty() {
+                    metas.push_str(",")?;
+                }
+                let node = dot.node;
+                let number = dot.number;
+                let value = shown.value;
+                let meta = format!(in alloc; "{{\"phx_ref\":\"{node}.{number}\",\"v\":{value}}}")?;
+                metas.push_str(meta.as_str())?;
+            }
+        }
+        Ok(metas)
+    }
+}
