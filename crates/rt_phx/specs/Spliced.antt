@@ -19,6 +19,7 @@ spliced_list join_ref topic ids shown =
     (((((((codes "[" ++ written join_ref) ++ codes ",null,") ++ quoted topic)
     ++ codes ",\"postgres_changes\",{\"ids\":[") ++ listed decimal ids) ++ codes "],\"data\":") ++ shown) ++ codes "}]"
 
+-- in either version
 abbrev pub spliced : Version → Json → List ℕ → List ℕ → List ℕ → List ℕ
 spliced V1 join_ref topic ids shown = spliced_object topic ids shown
 spliced V2 join_ref topic ids shown = spliced_list join_ref topic ids shown

@@ -85,30 +85,35 @@ impl Said {
         self.on(alloc, &self.join_ref, &self.reference)
     }
 
+    /// Lends the ref of the join.
     pub fn join_ref(&self) -> &Json
         ensures { result.now ≡ self.now.join_ref }
     {
         &self.join_ref
     }
 
+    /// Lends the ref.
     pub fn reference(&self) -> &Json
         ensures { result.now ≡ self.now.reference }
     {
         &self.reference
     }
 
+    /// Lends the topic.
     pub fn topic(&self) -> &str
         ensures { result.now ≡ self.now.topic }
     {
         self.body.get().topic.get()
     }
 
+    /// Lends the event.
     pub fn event(&self) -> &str
         ensures { result.now ≡ self.now.event }
     {
         self.body.get().event.get()
     }
 
+    /// Lends the payload.
     pub fn payload(&self) -> &Json
         ensures { result.now ≡ self.now.payload }
     {
