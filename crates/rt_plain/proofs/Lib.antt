@@ -1,8 +1,11 @@
+mod AllowedSteps
 mod Alike
 mod Calm
 mod Falling
 mod Free
+mod Gathered
 mod Idle
 mod Once
 mod Same
+mod SoundStates
 mod Taken

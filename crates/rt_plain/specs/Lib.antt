@@ -1,2 +1,4 @@
+pub mod AtOnce
 pub mod Plain
 pub mod Runs
+pub mod Scripts

@@ -4,6 +4,11 @@
 
 mod runs;
 mod schedule;
+mod scripts;
 
 pub use runs::{runs_are_one, scripts_run};
-pub use schedule::{due_is_free, plain_ends, plain_gives_all, workers_are_free, workers_end_alike};
+pub use schedule::{
+    due_is_free, plain_ends, plain_gives_all, rounds_are_at_once, workers_are_free,
+    workers_end_alike,
+};
+pub use scripts::scripts_are_allowed;

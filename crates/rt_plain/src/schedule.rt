@@ -1,3 +1,4 @@
+ghost use Rattle.rt_plain.specs.AtOnce.{RoundsAreAtOnce};
 ghost use Rattle.rt_plain.specs.Plain.{DueIsFree, PlainEnds, PlainGivesAll};
 ghost use Rattle.rt_plain.specs.Plain.{WorkersAreFree, WorkersEndAlike};
 
@@ -30,4 +31,10 @@ pub fn workers_are_free()
 /// items in the same order.
 pub fn workers_end_alike()
     ensures { WorkersEndAlike }
+{}
+
+/// In a round the workers of all lanes may work at once: that leads to the world to which they lead
+/// one after another, and each answers what it answers alone.
+pub fn rounds_are_at_once()
+    ensures { RoundsAreAtOnce }
 {}
