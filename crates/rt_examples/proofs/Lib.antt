@@ -21,5 +21,6 @@ mod RestrictiveComputed
 mod RoomsComputed
 mod StatementsComputed
 mod TracksComputed
+mod UpshotsComputed
 mod UsualSetComputed
 mod VectorsComputed

@@ -26,5 +26,6 @@ pub mod Rooms
 pub mod Statements
 pub mod Texts
 pub mod Tracks
+pub mod Upshots
 pub mod UsualSet
 pub mod Vectors

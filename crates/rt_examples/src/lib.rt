@@ -4,6 +4,9 @@
 ghost use Rattle.rt_examples.specs.Statements.{StatementsMeanLists, OpaqueKeyIsRefused};
 ghost use Rattle.rt_examples.specs.Statements.{SecondRoleIsRefused, PublicIsNoRole};
 ghost use Rattle.rt_examples.specs.Statements.{UnknownColumnIsRefused};
+ghost use Rattle.rt_examples.specs.Upshots.{MisspelledIsTold, SecondLineIsTold, TextsEndIsTold, LimitIsTold};
+ghost use Rattle.rt_examples.specs.Upshots.{ScriptsLineIsTold, StreamsLineIsTold, RowsAreTold, InputsAreTold};
+ghost use Rattle.rt_examples.specs.Upshots.{UsageIsTold, DigestIsShown};
 ghost use Rattle.rt_examples.specs.UsualSet.{UsualSetIsRead, RingIsRefused};
 ghost use Rattle.rt_examples.specs.UsualSet.{HiddenColumnIsRefused, OneHidesNothing};
 ghost use Rattle.rt_examples.specs.Memberships.{MembersSelect, BypassStays, QuotedIsAGroup};
@@ -225,4 +228,19 @@ pub fn conditions()
     ensures range { CastOutOfRange }
     ensures not_unknown { IsNotUnknown }
     ensures depth { DepthIsCounted }
+{}
+
+/// The lines in which refusals are told: places in a catalogue, lines of a script and of a stream,
+/// runs that find no room. And what `gen` prints of three bytes, by a digest of FIPS 180-4.
+pub fn upshots()
+    ensures misspelled { MisspelledIsTold }
+    ensures second_line { SecondLineIsTold }
+    ensures end { TextsEndIsTold }
+    ensures limit { LimitIsTold }
+    ensures script { ScriptsLineIsTold }
+    ensures stream { StreamsLineIsTold }
+    ensures rows { RowsAreTold }
+    ensures inputs { InputsAreTold }
+    ensures usage { UsageIsTold }
+    ensures digest { DigestIsShown }
 {}

@@ -2,3 +2,4 @@ pub mod Commands
 pub mod Generate
 pub mod Reading
 pub mod Running
+pub mod Statuses
