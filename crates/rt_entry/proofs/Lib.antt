@@ -9,9 +9,12 @@ pub mod Once
 pub mod Opens
 pub mod PlainParts
 pub mod Present
+pub mod Registered
 pub mod Shapes
 pub mod Slots
 pub mod Sound
+pub mod Sourced
+pub mod Spelling
 pub mod Stops
 pub mod Tracked
 pub mod Unique

@@ -13,5 +13,7 @@ pub mod Members
 pub mod Messages
 pub mod Presence
 pub mod Readable
+pub mod Sourced
+pub mod Spelling
 pub mod Story
 pub mod Tracks

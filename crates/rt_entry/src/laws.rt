@@ -1,8 +1,12 @@
 //! Laws of the journal, each on a function that does nothing: what the next input finds by what
 //! this one found and did, who is a member, what is present, and what stands in the lanes.
 
+mod counts;
 mod lanes;
+mod spelling;
 mod stories;
 
+pub use counts::meanings_agree;
 pub use lanes::{entries_give, lanes_fan_out, lanes_grow, marks_stay, stops_are_marked};
+pub use spelling::spelling_goes_on;
 pub use stories::{ids_rise, members_are_apart, slots_are_open, story_grows, tracks_are_apart};
