@@ -132,22 +132,22 @@ agree_same r x y e f = let z : Ok x ≡ Ok y = sym e ∙ f in cc
 agree_bind : {A C E : Type 0} (r : Result A E) (f g : A → Result C E) → ((x : A) → Agree (f x) (g x))
     → Agree (r >> f) (r >> g)
 agree_bind (Ok z) f g h = h z
-agree_bind (Err e) f g h x y p q = absurd (cc)
+agree_bind (Err e) f g h = λ x y p q. absurd (cc)
 
 -- first answers that agree, then the same
 agree_then : {A C E : Type 0} (r q : Result A E) (f g : A → Result C E) → Agree r q
     → ((x : A) → Agree (f x) (g x)) → Agree (r >> f) (q >> g)
 agree_then {A} {C} (Ok a) (Ok b) f g h k =
     let P : A → Type 0 = λ z. Agree (f a) (g z) in subst P (h a b refl refl) (k a)
-agree_then (Ok a) (Err e) f g h k x y p q = absurd (cc)
-agree_then (Err e) q f g h k x y p r = absurd (cc)
+agree_then (Ok a) (Err e) f g h k = λ x y p q. absurd (cc)
+agree_then (Err e) q f g h k = λ x y p r. absurd (cc)
 
 -- whatever the first answers are
 agree_roles : {C E : Type 0} (r q : Result ℕ E) (f : ℕ → Result C E) → ((m n : ℕ) → Agree (f m) (f n))
     → Agree (r >> f) (q >> f)
 agree_roles (Ok m) (Ok n) f h = h m n
-agree_roles (Ok m) (Err e) f h x y p q = absurd (cc)
-agree_roles (Err e) q f h x y p r = absurd (cc)
+agree_roles (Ok m) (Err e) f h = λ x y p q. absurd (cc)
+agree_roles (Err e) q f h = λ x y p r. absurd (cc)
 
 -- a role decides which columns are seen, and not which they are
 abbrev shown_by : Catalog → ℕ → ℕ → ℕ × Column → Shown
@@ -173,9 +173,9 @@ found_alike c role other table f k (e ∷ es) =
 
 agree_if : {A E : Type 0} (a b : Bool) (e : E) (r : Result A E)
     → Agree (if a then Err e else r) (if b then Err e else r)
-agree_if true b e r x y p q = absurd (cc)
-agree_if false true e r x y p q = absurd (cc)
-agree_if false false e r x y p q = agree_same r x y p q
+agree_if true b e r = λ x y p q. absurd (cc)
+agree_if false true e r = λ x y p q. absurd (cc)
+agree_if false false e r = agree_same r
 
 tested_alike : (f : Filter) (x y : ℕ × Shown) → x.0 ≡ y.0 → x.1.kind ≡ y.1.kind → Agree (test_on f x) (test_on f y)
 tested_alike f x y n k =
