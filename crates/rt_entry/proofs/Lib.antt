@@ -5,6 +5,7 @@ pub mod Ids
 pub mod Journals
 pub mod Keeping
 pub mod Marks
+pub mod Members
 pub mod Once
 pub mod Opens
 pub mod PlainParts

@@ -6,7 +6,7 @@ mod lanes;
 mod spelling;
 mod stories;
 
-pub use counts::meanings_agree;
+pub use counts::{meanings_agree, members_are_registered};
 pub use lanes::{entries_give, lanes_fan_out, lanes_grow, marks_stay, stops_are_marked};
 pub use spelling::spelling_goes_on;
 pub use stories::{ids_rise, members_are_apart, slots_are_open, story_grows, tracks_are_apart};
