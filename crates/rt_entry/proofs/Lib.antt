@@ -1,3 +1,4 @@
+pub mod Counted
 pub mod Crossing
 pub mod Fans
 pub mod Grows

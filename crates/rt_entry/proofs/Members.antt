@@ -71,7 +71,9 @@ standing_stands c tables name claims =
     checked_then (Stands c claims) (unless (denied c tables role claims name private.join)) _ (λ _. (refl, e)))
 
 -- what a join that is accepted makes
-pub record IsMadeWell (c : Catalog) (others : ℕ) (ch : Channel) : Type 0 where
+pub record IsMadeWell (c : Catalog) (slot : ℕ) (topic : List ℕ) (others : ℕ) (ch : Channel) : Type 0 where
+  pub slot_is : ch.slot ≡ slot
+  pub topic_is : ch.topic ≡ topic
   pub few : nat_lt others channel_limit ≡ true
   pub role : role_for c ch.standing.claims ≡ Ok ch.standing.role
   pub bindings : bindings_for c ch.standing.claims (bindings_of ch.bindings) ≡ Ok ch.bindings
@@ -84,11 +86,11 @@ record IsRenewedWell (c : Catalog) (ch : Channel) (x : Standing) : Type 0 where
 
 module _ (c : Catalog) (s : Settings) (now : Now) (tables : List (List Row)) where
   join_well : (slot : ℕ) (o : Opening) (others : ℕ) (m : Message)
-      → Gives (IsMadeWell c others) (channel_of_join c tables s now slot o others m)
+      → Gives (IsMadeWell c slot m.topic others) (channel_of_join c tables s now slot o others m)
   unfolding channel_of_join
   join_well slot o others m =
       let name = name_in m.topic in
-      let D : Channel → Type 0 = IsMadeWell c others in
+      let D : Channel → Type 0 = IsMadeWell c slot m.topic others in
       checked_then D (or_why (codes "bad config") (config_of m.payload)) _ (λ config.
       checked_then D (demand (is_as_private c config.private) (codes "private channel")) _ (λ _.
       checked_then D (asked_claims s now o (member_of m.payload (codes "access_token"))) _ (λ claims.
@@ -104,6 +106,8 @@ module _ (c : Catalog) (s : Settings) (now : Now) (tables : List (List Row)) whe
       let P : Claims → Type 0 = λ x. bindings_for c x (bindings_of bindings) ≡ Ok bindings in
       let Q : Claims → Type 0 = λ x. role_for c x ≡ Ok standing.role in
       record {
+        slot_is = refl;
+        topic_is = refl;
         few = few;
         role = subst Q (sym hs.0) hs.1;
         bindings = subst P (sym hs.0) (meant_again c claims asked bindings e);
@@ -126,10 +130,10 @@ module _ (c : Catalog) (s : Settings) (now : Now) (tables : List (List Row)) whe
       record { role = subst Q (sym hs.0) hs.1; meant = ss; bindings = subst P (sym hs.0) e })))
 
   pub joined_well : (ch : Channel) (j : IsJoin c s now tables ch)
-      → IsMadeWell c (others now j.slot j.message.topic) ch
+      → IsMadeWell c j.slot j.message.topic (others now j.slot j.message.topic) ch
   joined_well ch j =
       let n = others now j.slot j.message.topic in
-      given_of (IsMadeWell c n) (channel_of_join c tables s now j.slot j.opening n j.message) ch
+      given_of (IsMadeWell c j.slot j.message.topic n) (channel_of_join c tables s now j.slot j.opening n j.message) ch
       (join_well j.slot j.opening n j.message) j.made
 
   renewed_well : (number : ℕ) (x : Standing) (r : IsRenewal c s now tables number x) → IsRenewedWell c r.member.channel x
