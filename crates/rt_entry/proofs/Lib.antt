@@ -1,6 +1,8 @@
 pub mod Counted
 pub mod Crossing
+pub mod Departing
 pub mod Fans
+pub mod Growing
 pub mod Grows
 pub mod Ids
 pub mod Journals

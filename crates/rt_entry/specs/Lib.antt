@@ -2,8 +2,10 @@ pub mod Access
 pub mod After
 pub mod Answers
 pub mod Audit
+pub mod Departing
 pub mod Doings
 pub mod Fan
+pub mod Growing
 pub mod Headline
 pub mod Ids
 pub mod Joining
