@@ -1,6 +1,7 @@
 pub mod Counted
 pub mod Crossing
 pub mod Departing
+pub mod Edited
 pub mod Fans
 pub mod Growing
 pub mod Grows
@@ -14,6 +15,7 @@ pub mod Opens
 pub mod PlainParts
 pub mod Present
 pub mod Registered
+pub mod Reports
 pub mod Shapes
 pub mod Slots
 pub mod Sound

@@ -4,6 +4,7 @@ pub mod Answers
 pub mod Audit
 pub mod Departing
 pub mod Doings
+pub mod Edited
 pub mod Fan
 pub mod Growing
 pub mod Headline
@@ -15,6 +16,7 @@ pub mod Members
 pub mod Messages
 pub mod Presence
 pub mod Readable
+pub mod Reports
 pub mod Sourced
 pub mod Spelling
 pub mod Story
