@@ -119,7 +119,7 @@ module _ (c : Catalog) (s : Settings) where
       subst Q made.2 (subst P (sym (story_grows c s journal i))
       (open_after (now_of (story c s journal)) i (done_by c s journal i) made.0.slot k.0 k.1))
 
-  none_there : (h : Member) → Among (members_in (story c s [])) h → ⊥
+  pub none_there : (h : Member) → Among (members_in (story c s [])) h → ⊥
   none_there h here =
       let st = story c s [] in
       let made = among_map (member_in st) (members_at st) h here in

@@ -312,7 +312,7 @@ shape_sound l before h =
     }
 
 -- whoever joins finds room
-shape_room : {ids : ℕ} (b : Bool) (n : ℕ) (hs : List Member) (ps : List Part) → Shape b n ids hs ps
+pub shape_room : {ids : ℕ} (b : Bool) (n : ℕ) (hs : List Member) (ps : List Part) → Shape b n ids hs ps
     → AllOf (λ (ch : Channel). MakesRoom hs ch ps) (joins_of ps)
 shape_room b n hs ps (plain h) = let P : List Channel → Type 0 = AllOf (λ (ch : Channel). MakesRoom hs ch ps) in
     subst P (sym (plain_joins b n ps h)) tt

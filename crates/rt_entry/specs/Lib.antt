@@ -3,8 +3,11 @@ pub mod After
 pub mod Answers
 pub mod Audit
 pub mod ByNumber
+pub mod Departing
 pub mod Doings
+pub mod Edited
 pub mod Fan
+pub mod Growing
 pub mod Headline
 pub mod Ids
 pub mod Joining
@@ -14,5 +17,8 @@ pub mod Members
 pub mod Messages
 pub mod Presence
 pub mod Readable
+pub mod Reports
+pub mod Sourced
+pub mod Spelling
 pub mod Story
 pub mod Tracks

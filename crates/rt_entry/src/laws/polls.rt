@@ -1,0 +1,20 @@
+//! Laws of polls: the tables that they leave, and what is reported of them.
+
+ghost use Rattle.rt_catalog.specs.declared.catalog.Catalog.{Catalog as CatalogData};
+ghost use Rattle.rt_entry.specs.declared.input.Settings.{Settings as SettingsData};
+ghost use Rattle.rt_entry.specs.Edited.{RowsAreOfTables, TablesAreEdited, TablesAreTheCatalogues};
+ghost use Rattle.rt_entry.specs.Reports.{ReportsAreAudits};
+
+/// The tables that a poll leaves are those before it with each of its changes' edits, one after
+/// another, each of one table; the rows that are counted are theirs; and there are as many tables
+/// as the catalogue has.
+pub fn tables_are_edited()
+    ensures edited { (c : CatalogData) (s : SettingsData) → TablesAreEdited c s }
+    ensures rows { (c : CatalogData) (s : SettingsData) → RowsAreOfTables c s }
+    ensures number { (c : CatalogData) (s : SettingsData) → TablesAreTheCatalogues c s }
+{}
+
+/// What is reported of a lane's entries, each by its fields alone, is the audit of the journal.
+pub fn reports_are_audits()
+    ensures { (c : CatalogData) (s : SettingsData) → ReportsAreAudits c s }
+{}
