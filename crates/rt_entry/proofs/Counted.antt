@@ -48,7 +48,7 @@ fewer : {A : Type 0} (p q : A → Bool) (xs : List A) → AllOf (λ x. p x ≡ t
 fewer p q [] a = omega arith
 fewer p q (x ∷ xs) a = fewer_case x (filter p xs) (filter q xs) (p x) (q x) a.0 (fewer p q xs a.1)
 
-as_many : {A B : Type 0} (f : A → B) (xs : List A) → length (map f xs) ≡ length xs
+pub as_many : {A B : Type 0} (f : A → B) (xs : List A) → length (map f xs) ≡ length xs
 as_many f [] = refl
 as_many f (x ∷ xs) = ap suc (as_many f xs)
 

@@ -2,6 +2,7 @@ pub mod Access
 pub mod After
 pub mod Answers
 pub mod Audit
+pub mod Bounds
 pub mod Departing
 pub mod Doings
 pub mod Edited
