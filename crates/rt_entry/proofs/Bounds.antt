@@ -1,5 +1,5 @@
 -- A bound change is of a table of the catalogue.
-use Rattle.std.proofs.Common.{◌≡◌, ℕ, ◌<◌, Bool, ◌&&◌, not, length, Option, Some, None, Ok, Err, refl}
+use Rattle.std.proofs.Common.{◌≡◌, ℕ, ◌<◌, ◌&&◌, not, length, Option, Some, None, Ok, Err, refl}
 use Rattle.std.specs.Prelude.{⊤, Result}
 use Rattle.std.specs.Str.{bytes_eq}
 use Rattle.rt_value.specs.Choice.{some_if}
