@@ -40,3 +40,4 @@ mod Turns
 pub mod Untouched
 mod Whole
 mod Within
+pub mod Working

@@ -8,3 +8,4 @@ pub mod Private
 pub mod Served
 pub mod Told
 pub mod Views
+pub mod Working
