@@ -11,6 +11,7 @@ pub mod Growing
 pub mod Headline
 pub mod Ids
 pub mod Joining
+pub mod Kept
 pub mod Lanes
 pub mod Machine
 pub mod Members

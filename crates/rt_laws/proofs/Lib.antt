@@ -41,3 +41,5 @@ pub mod Untouched
 mod Whole
 mod Within
 pub mod Working
+pub mod Kept
+pub mod WorkersKeep

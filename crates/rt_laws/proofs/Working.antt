@@ -74,7 +74,7 @@ module _ (c : Catalog) (s : Settings) where
   by_lanes w l true f e = same_lanes w w.lanes f e
   by_lanes w l false f e = same_lanes w (with_lane w l (one_worked (w.lanes l))).lanes f e
 
-  work_is : (w : World) (l : ℕ) → (step_of c s w (Work l)).1 ≡ with_lanes w (next_at l w.lanes)
+  pub work_is : (w : World) (l : ℕ) → (step_of c s w (Work l)).1 ≡ with_lanes w (next_at l w.lanes)
   unfolding step_of
   work_is w l =
       let b = (w.lanes l).worked == (w.lanes l).sent in

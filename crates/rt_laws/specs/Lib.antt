@@ -3,6 +3,7 @@ pub mod Changes
 pub mod Departures
 pub mod Exact
 pub mod Follows
+pub mod Keeping
 pub mod Openings
 pub mod Private
 pub mod Served

@@ -2,6 +2,7 @@
 
 ghost use Rattle.rt_catalog.specs.declared.catalog.Catalog.{Catalog as CatalogData};
 ghost use Rattle.rt_entry.specs.declared.input.Settings.{Settings as SettingsData};
+ghost use Rattle.rt_laws.specs.Keeping.{WorkersKeep};
 ghost use Rattle.rt_laws.specs.Working.{WorkSpells, WorksAreAlone, WorksCommute};
 
 /// A worker that takes an entry makes of each slot of its lane what the entry tells the slot,
@@ -15,4 +16,11 @@ pub fn work_spells()
 pub fn works_are_apart()
     ensures order { (c : CatalogData) (s : SettingsData) → WorksCommute c s }
     ensures alone { (c : CatalogData) (s : SettingsData) → WorksAreAlone c s }
+{}
+
+/// After any steps, a worker that takes an entry changes what it keeps of a slot by what the entry
+/// tells the slot, and that is what stands in the machine: the version, whether the slot's opening
+/// is cut, and what is pending.
+pub fn workers_keep()
+    ensures { (c : CatalogData) (s : SettingsData) → WorkersKeep c s }
 {}
