@@ -1,16 +1,15 @@
 -- How many there are behind a journal: lines, slots, ids, channels of a slot; and that members rise by their numbers.
-use Rattle.std.proofs.Common.{◌≡◌, ◌⊎◌, ℕ, zero, suc, ◌+◌, ◌*◌, ◌<◌, ◌≤◌, Bool, true, false, ◌&&◌, not, cond, List, [], ◌∷◌}
-use Rattle.std.proofs.Common.{◌++◌, map, length, refl, sym, ap, subst, ◌∙◌, arith, inl, inr, length-append, append-nil}
-use Rattle.std.specs.Prelude.{⊤, ◌==◌, nat_lt}
-use Rattle.std.specs.List.{filter, flat_map, range_with_len}
+use Rattle.std.proofs.Common.{◌≡◌, ◌⊎◌, ℕ, suc, ◌+◌, ◌*◌, ◌<◌, ◌≤◌, Bool, true, false, ◌&&◌, not, cond, List, [], ◌∷◌}
+use Rattle.std.proofs.Common.{map, length, refl, sym, ap, subst, ◌∙◌, arith, inl, inr, length-append, append-nil}
+use Rattle.std.specs.Prelude.{◌==◌, nat_lt}
+use Rattle.std.specs.List.{filter, flat_map}
 use Rattle.std.proofs.lemmas.Bool.{and_parts, and_from}
 use Rattle.std.proofs.lemmas.Bool.Decides.{nat_tests, eqb_tells}
 use Rattle.std.proofs.lemmas.List.Elements.{filter-append}
 use Rattle.std.proofs.lemmas.List.FromFn.{length-map-range_with_len}
 use Rattle.std.proofs.lemmas.Slice.Eq.{bytes_eq-Decides}
-use Rattle.std.specs.Str.{bytes_eq}
 use Rattle.rt_value.proofs.Among.{Among}
-use Rattle.rt_value.proofs.Plain.{AllOf, all_among, all_filter, all_map_of, all_weaker, all_themselves, filter_and}
+use Rattle.rt_value.proofs.Plain.{AllOf, all_weaker, all_themselves, filter_and}
 use Rattle.rt_value.proofs.Plain.{filter_map_swap}
 use Rattle.rt_catalog.specs.declared.catalog.Catalog.{Catalog}
 use Rattle.rt_registry.specs.Bindings.{binding_limit}
@@ -19,13 +18,12 @@ use Rattle.rt_entry.specs.declared.input.Settings.{Settings}
 use Rattle.rt_entry.specs.declared.story.Channel.{Channel}
 use Rattle.rt_entry.specs.declared.story.Member.{Member}
 use Rattle.rt_entry.specs.declared.story.Part.{Part}
-use Rattle.rt_entry.specs.Story.{Now, now_of, tables_left, has, departed_in, every_slot, opening_at, joined, ids_given}
+use Rattle.rt_entry.specs.Story.{Now, now_of, tables_left, every_slot, opening_at, joined, ids_given}
 use Rattle.rt_entry.specs.Joining.{channel_limit}
 use Rattle.rt_entry.specs.Doings.{story, is_of_slot, is_on, channels_of, others}
-use Rattle.rt_entry.specs.After.{found_by, done_by, joins_of, remains, renewed, new_member, members_after, after}
+use Rattle.rt_entry.specs.After.{found_by, done_by, joins_of, remains, renewed, new_member, after}
 use Rattle.rt_entry.specs.Ids.{RiseWithin}
-use Rattle.rt_entry.specs.Members.{members_of_journal}
-use Rattle.rt_entry.specs.Sourced.{IsCounted, JournalsAreCounted, MembersRise, IsNextIn, JoinsAreNext}
+use Rattle.rt_entry.specs.Sourced.{JournalsAreCounted, MembersRise, IsNextIn, JoinsAreNext}
 use Rattle.rt_entry.proofs.Shapes.{Below, MakesRoom, fine_for}
 use Rattle.rt_entry.proofs.Sound.{members_in, held_below, shape_room}
 use Rattle.rt_entry.proofs.PlainParts.{shape_joins}
@@ -33,7 +31,7 @@ use Rattle.rt_entry.proofs.Journals.{story_shaped, story_grows, story_length, sh
 use Rattle.rt_entry.proofs.Unique.{RisingMembers, members_rising}
 use Rattle.rt_entry.proofs.Sourced.{IsJoin, sourced, joins_sourced}
 use Rattle.rt_entry.proofs.Registered.{meant_few}
-use Rattle.rt_entry.proofs.Members.{IsMadeWell, joined_well, members_next, none_yet}
+use Rattle.rt_entry.proofs.Members.{joined_well, members_next, none_yet}
 
 fewer_case : {A : Type 0} (x : A) (xs ys : List A) (b d : Bool) → (b ≡ true → d ≡ true) → length xs ≤ length ys
     → length (cond b (x ∷ xs) xs) ≤ length (cond d (x ∷ ys) ys)
@@ -48,7 +46,7 @@ fewer : {A : Type 0} (p q : A → Bool) (xs : List A) → AllOf (λ x. p x ≡ t
 fewer p q [] a = omega arith
 fewer p q (x ∷ xs) a = fewer_case x (filter p xs) (filter q xs) (p x) (q x) a.0 (fewer p q xs a.1)
 
-as_many : {A B : Type 0} (f : A → B) (xs : List A) → length (map f xs) ≡ length xs
+pub as_many : {A B : Type 0} (f : A → B) (xs : List A) → length (map f xs) ≡ length xs
 as_many f [] = refl
 as_many f (x ∷ xs) = ap suc (as_many f xs)
 

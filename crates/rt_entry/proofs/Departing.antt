@@ -2,7 +2,7 @@
 use Rattle.std.proofs.Common.{◌≡◌, ℕ, Bool, true, false, ◌&&◌, ◌||◌, not, cond, List, [], ◌∷◌, ◌++◌, map, Option, Some, None}
 use Rattle.std.proofs.Common.{refl, sym, ap, ◌∙◌, inl, inr}
 use Rattle.std.specs.Prelude.{◌==◌, find}
-use Rattle.std.specs.List.{filter, list_any}
+use Rattle.std.specs.List.{filter}
 use Rattle.std.proofs.lemmas.Bool.Decides.{eqb_tells}
 use Rattle.std.specs.Str.{bytes_eq}
 use Rattle.rt_value.proofs.Plain.{any_append, not_or, and_swap, filter_and, filter_same}
@@ -11,7 +11,7 @@ use Rattle.rt_entry.specs.declared.story.Track.{Track}
 use Rattle.rt_entry.specs.declared.story.Part.{Part}
 use Rattle.rt_entry.specs.declared.story.Part.TheVariants.{Departs}
 use Rattle.rt_entry.specs.Story.{Now, has}
-use Rattle.rt_entry.specs.Doings.{tell, is_on, track_of, watches, diff_to, diffs, leave_diffs, depart, close}
+use Rattle.rt_entry.specs.Doings.{tell, is_on, track_of, watches, diff_to, leave_diffs, depart, close}
 use Rattle.rt_entry.specs.Messages.{close_message, failed_message}
 use Rattle.rt_entry.specs.Departing.{is_left, is_left_track, left_by, DeparturesLeaveTracks, DeparturesAdd}
 use Rattle.rt_entry.specs.Departing.{PartsAreOfTheLeft, DeparturesLeaveParts}

@@ -1,5 +1,5 @@
 -- The subscriptions and the watchers of changed members.
-use Rattle.std.proofs.Common.{◌≡◌, ℕ, ◌+◌, Bool, true, false, ◌&&◌, not, cond, List, [], ◌∷◌, ◌++◌, map, Some, None, refl}
+use Rattle.std.proofs.Common.{◌≡◌, ℕ, Bool, true, false, ◌&&◌, not, cond, List, [], ◌∷◌, ◌++◌, map, Some, None, refl}
 use Rattle.std.proofs.Common.{sym, ap, ◌∙◌}
 use Rattle.std.specs.Prelude.{◌==◌, if◌then◌else◌}
 use Rattle.std.specs.List.{filter, flat_map, enumerate_from, cons_option}
@@ -18,7 +18,7 @@ use Rattle.rt_entry.specs.Doings.{subscriptions, subscriptions_of, is_on, watche
 use Rattle.rt_entry.specs.After.{renewed}
 use Rattle.rt_entry.specs.Departing.{is_left}
 use Rattle.rt_entry.specs.Growing.{is_left_subscription, renewed_as, SubscriptionsJoin, SubscriptionsDepart}
-use Rattle.rt_entry.specs.Growing.{SubscriptionsRenew, watchers, WatchersJoin, WatchersDepart, WatchersLeft}
+use Rattle.rt_entry.specs.Growing.{SubscriptionsRenew, WatchersJoin, WatchersDepart, WatchersLeft}
 use Rattle.rt_entry.specs.Growing.{WatchersRenew}
 
 pub subscriptions_join : SubscriptionsJoin

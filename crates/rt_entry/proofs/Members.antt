@@ -1,10 +1,8 @@
 -- Each member is registered, and what stands behind a journal is counted.
-use Rattle.std.proofs.Common.{◌≡◌, ◌⊎◌, ℕ, suc, ◌+◌, ◌*◌, ◌<◌, ◌≤◌, Bool, true, false, not, cond, List, [], ◌∷◌, ◌++◌}
-use Rattle.std.proofs.Common.{map, length, Option, Some, None, Ok, Err, refl, sym, ap, subst, ◌∙◌, arith, inl, inr}
-use Rattle.std.proofs.Common.{length-append, append-nil}
-use Rattle.std.specs.Prelude.{⊤, Result, Contains, nat_lt, codes}
-use Rattle.std.specs.List.{filter, filter_map, flat_map}
-use Rattle.std.proofs.lemmas.Bool.Decides.{nat_tests}
+use Rattle.std.proofs.Common.{◌≡◌, ℕ, Bool, true, false, List, [], ◌∷◌}
+use Rattle.std.proofs.Common.{map, Some, Ok, Err, refl, sym, ap, subst, ◌∙◌, inl, inr}
+use Rattle.std.specs.Prelude.{Result, nat_lt, codes}
+use Rattle.std.specs.List.{filter, filter_map}
 use Rattle.rt_value.specs.declared.claims.Claims.{Claims}
 use Rattle.rt_value.specs.declared.row.Row.{Row}
 use Rattle.rt_value.proofs.Among.{Among, from_contains, to_contains, among_either, among_filter, among_map}
@@ -16,7 +14,7 @@ use Rattle.rt_phx.specs.Joins.{config_of}
 use Rattle.rt_phx.specs.Asks.{name_in}
 use Rattle.rt_catalog.specs.declared.catalog.Catalog.{Catalog}
 use Rattle.rt_registry.specs.declared.binding.Subscribed.{Subscribed}
-use Rattle.rt_registry.specs.Bindings.{Refusal, role_for, bindings_for, binding_limit}
+use Rattle.rt_registry.specs.Bindings.{Refusal, role_for, bindings_for}
 use Rattle.rt_private.specs.Rights as private
 use Rattle.rt_entry.specs.declared.input.Input.{Input}
 use Rattle.rt_entry.specs.declared.input.Settings.{Settings}
@@ -25,7 +23,7 @@ use Rattle.rt_entry.specs.declared.story.Standing.{Standing}
 use Rattle.rt_entry.specs.declared.story.Channel.{Channel}
 use Rattle.rt_entry.specs.declared.story.Member.{Member}
 use Rattle.rt_entry.specs.declared.story.Part.{Part}
-use Rattle.rt_entry.specs.Story.{Now, now_of, tables_left, renewed_by, first_or, members_at, member_in}
+use Rattle.rt_entry.specs.Story.{Now, now_of, tables_left, renewed_by, first_or}
 use Rattle.rt_entry.specs.Joining.{Checked, ◌>>◌, or_why, demand, told_by, registry_text, channel_limit, binding_of}
 use Rattle.rt_entry.specs.Joining.{asked_claims, unless, is_as_private, denied, standing_for, made_channel}
 use Rattle.rt_entry.specs.Joining.{channel_of_join, renewal_of}
@@ -33,12 +31,11 @@ use Rattle.rt_entry.specs.Doings.{story, others}
 use Rattle.rt_entry.specs.After.{found_by, done_by, joins_of, remains, renewed, new_member, members_after, after}
 use Rattle.rt_entry.specs.Members.{members_of_journal}
 use Rattle.rt_entry.specs.Sourced.{bindings_of, IsRegistered, MembersAreRegistered}
-use Rattle.rt_entry.proofs.Sound.{members_in}
 use Rattle.rt_entry.proofs.Journals.{story_grows}
 use Rattle.rt_entry.proofs.Once.{numbers_apart}
 use Rattle.rt_entry.proofs.Slots.{none_there}
 use Rattle.rt_entry.proofs.Sourced.{IsJoin, IsRenewal, sourced, joins_sourced, renewals_sourced}
-use Rattle.rt_entry.proofs.Registered.{Gives, gives_any, gives_itself, given_of, meant_again, meant_alike}
+use Rattle.rt_entry.proofs.Registered.{Gives, given_of, meant_again, meant_alike}
 
 checked_bind : {A C : Type 0} (B : A → Type 0) (D : C → Type 0) (r : Checked A) (f : A → Checked C) → Gives B r
     → ((x : A) → B x → Gives D (f x)) → Gives D (r >> f)

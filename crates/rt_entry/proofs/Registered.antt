@@ -12,7 +12,6 @@ use Rattle.rt_filter.specs.declared.filter.Test.{Test}
 use Rattle.rt_filter.specs.declared.filter.Filter.{Filter}
 use Rattle.rt_filter.specs.declared.fault.FilterFault.{FilterFault}
 use Rattle.rt_filter.specs.declared.fault.FilterFault.TheVariants.{ColumnHidden, Opaque, TooMany}
-use Rattle.rt_filter.specs.declared.subscription.Wanted.{Wanted}
 use Rattle.rt_filter.specs.Written.{filter_of}
 use Rattle.rt_filter.specs.Tests.{test_of, test_on, test_with, all_read, is_opaque, value_limit}
 use Rattle.rt_catalog.specs.declared.catalog.Catalog.{Catalog}

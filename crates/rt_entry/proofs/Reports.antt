@@ -9,7 +9,6 @@ use Rattle.rt_entry.specs.declared.input.Input.TheVariants.{Opened, Frame, Gone,
 use Rattle.rt_entry.specs.declared.input.Settings.{Settings}
 use Rattle.rt_entry.specs.declared.answer.Answer.{Answer}
 use Rattle.rt_entry.specs.declared.answer.Answer.TheVariants as a
-use Rattle.rt_entry.specs.declared.entry.Entry.{Entry}
 use Rattle.rt_entry.specs.Story.{now_of, tables_left}
 use Rattle.rt_entry.specs.Doings.{story, subscriptions}
 use Rattle.rt_entry.specs.Answers.{Answers, Mark, mark_of, stop, is_in_lane, of_lane, answer_entry, answers_by}

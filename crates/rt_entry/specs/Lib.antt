@@ -3,6 +3,7 @@ pub mod After
 pub mod Answers
 pub mod Audit
 pub mod ByNumber
+pub mod Bounds
 pub mod Departing
 pub mod Doings
 pub mod Edited
@@ -11,6 +12,7 @@ pub mod Growing
 pub mod Headline
 pub mod Ids
 pub mod Joining
+pub mod Kept
 pub mod Lanes
 pub mod Machine
 pub mod Members

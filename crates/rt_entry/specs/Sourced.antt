@@ -1,5 +1,5 @@
 -- Where a channel and its standing come from: a join that was accepted, and renewals that were.
-use Rattle.std.specs.Prelude.{◌≡◌, ◌⊎◌, ℕ, ◌+◌, ◌*◌, ◌≤◌, ◌<◌, List, [], ◌∷◌, map, length, Ok, Contains}
+use Rattle.std.specs.Prelude.{◌≡◌, ◌⊎◌, ℕ, ◌+◌, ◌*◌, ◌≤◌, List, [], ◌∷◌, map, length, Ok, Contains}
 use Rattle.rt_catalog.specs.declared.catalog.Catalog.{Catalog}
 use Rattle.rt_registry.specs.declared.binding.Binding.{Binding}
 use Rattle.rt_registry.specs.declared.binding.Subscribed.{Subscribed}
@@ -8,7 +8,7 @@ use Rattle.rt_entry.specs.declared.input.Input.{Input}
 use Rattle.rt_entry.specs.declared.input.Settings.{Settings}
 use Rattle.rt_entry.specs.declared.story.Channel.{Channel}
 use Rattle.rt_entry.specs.declared.story.Member.{Member}
-use Rattle.rt_entry.specs.Story.{now_of, slot_count}
+use Rattle.rt_entry.specs.Story.{slot_count}
 use Rattle.rt_entry.specs.Joining.{channel_limit}
 use Rattle.rt_entry.specs.Doings.{story, channels_of}
 use Rattle.rt_entry.specs.After.{found_by, done_by, joins_of}

@@ -159,7 +159,7 @@ module _ (c : Catalog) (s : Settings) where
       (cut_short (worked_items c s w slot) x.given x.past x.cuts p k refl refl (g.slots slot)
       (front_good w slot p ps g e))
 
-  good_keeps : Keeps c s IsGood
+  pub good_keeps : Keeps c s IsGood
   good_keeps = record {
     inlet = inlet_good;
     feed = feed_good;

@@ -40,3 +40,6 @@ mod Turns
 pub mod Untouched
 mod Whole
 mod Within
+pub mod Working
+pub mod Kept
+pub mod WorkersKeep

@@ -31,17 +31,12 @@ use Rattle.rt_entry.specs.Machine.{is_message}
 use Rattle.rt_entry.specs.Answers.{Answers, answer_of, at_slot, told, spell, answers_by, answers, all_answers, due}
 use Rattle.rt_entry.specs.Presence.{said_to, said_by, said_since, told_since, as_items, end_count, last_items}
 use Rattle.rt_entry.specs.After.{done_by}
+use Rattle.rt_entry.specs.Spelling.{version_after}
 use Rattle.rt_laws.specs.Departures.{heard}
 use Rattle.rt_entry.proofs.Marks.{told_append, answers_more}
 use Rattle.rt_entry.proofs.Opens.{Spares}
+use Rattle.rt_entry.proofs.Spelling.{version_append}
 use Rattle.rt_entry.proofs.Slots.{Either, either, open_slots, open_channel, none_first, joins_numbered, member_number}
-
--- the version of the last opening
-abbrev pub version_after : Version → List Answer → Version
-version_after v [] = v
-version_after v (a.Opened w ∷ rest) = version_after w rest
-version_after v (a.Says m ∷ rest) = version_after v rest
-version_after v (a.Ended name ∷ rest) = version_after v rest
 
 abbrev pub as_said : List Message → List Answer
 as_said ms = map (λ (m : Message). a.Says m) ms
@@ -61,13 +56,6 @@ version_said v [] (m ∷ ms) = version_said v [] ms
 version_said v (a.Opened w ∷ xs) ms = version_said w xs ms
 version_said v (a.Says m ∷ xs) ms = version_said v xs ms
 version_said v (a.Ended name ∷ xs) ms = version_said v xs ms
-
-version_append : (v : Version) (xs ys : List Answer)
-    → version_after v (xs ++ ys) ≡ version_after (version_after v xs) ys
-version_append v [] ys = refl
-version_append v (a.Opened w ∷ xs) ys = version_append w xs ys
-version_append v (a.Says m ∷ xs) ys = version_append v xs ys
-version_append v (a.Ended name ∷ xs) ys = version_append v xs ys
 
 -- behind messages nothing has ended
 

@@ -3,8 +3,10 @@ pub mod Changes
 pub mod Departures
 pub mod Exact
 pub mod Follows
+pub mod Keeping
 pub mod Openings
 pub mod Private
 pub mod Served
 pub mod Told
 pub mod Views
+pub mod Working

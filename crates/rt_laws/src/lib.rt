@@ -9,6 +9,7 @@ mod private;
 mod serving;
 mod steps;
 mod stories;
+mod workers;
 
 pub use access::{audit_decides, changes_are_allowed, given_is_allowed, verdicts_are_one};
 pub use exact::{cuts_are_put, only_polls_tell_changes};
@@ -23,3 +24,4 @@ pub use private::{
 pub use serving::{serves_all, uncut_is_due};
 pub use steps::{cuts_are_own, others_are_untouched, push_keeps_the_rest};
 pub use stories::openings_are_whole;
+pub use workers::{work_spells, workers_keep, works_are_apart};

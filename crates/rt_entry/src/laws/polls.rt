@@ -1,6 +1,7 @@
 //! Laws of polls: the tables that they leave, and what is reported of them.
 
 ghost use Rattle.rt_catalog.specs.declared.catalog.Catalog.{Catalog as CatalogData};
+ghost use Rattle.rt_entry.specs.Bounds.{BoundsAreOfTables};
 ghost use Rattle.rt_entry.specs.declared.input.Settings.{Settings as SettingsData};
 ghost use Rattle.rt_entry.specs.Edited.{RowsAreOfTables, TablesAreEdited, TablesAreTheCatalogues};
 ghost use Rattle.rt_entry.specs.Reports.{ReportsAreAudits};
@@ -17,4 +18,10 @@ pub fn tables_are_edited()
 /// What is reported of a lane's entries, each by its fields alone, is the audit of the journal.
 pub fn reports_are_audits()
     ensures { (c : CatalogData) (s : SettingsData) → ReportsAreAudits c s }
+{}
+
+/// A change that a record is bound to is of a table of the catalogue, and has a cell and a tree, or
+/// none, for each of its columns.
+pub fn bounds_are_of_tables()
+    ensures { (c : CatalogData) → BoundsAreOfTables c }
 {}

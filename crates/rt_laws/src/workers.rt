@@ -1,0 +1,26 @@
+//! Laws of the workers of lanes.
+
+ghost use Rattle.rt_catalog.specs.declared.catalog.Catalog.{Catalog as CatalogData};
+ghost use Rattle.rt_entry.specs.declared.input.Settings.{Settings as SettingsData};
+ghost use Rattle.rt_laws.specs.Keeping.{WorkersKeep};
+ghost use Rattle.rt_laws.specs.Working.{WorkSpells, WorksAreAlone, WorksCommute};
+
+/// A worker that takes an entry makes of each slot of its lane what the entry tells the slot,
+/// spelled in the version that stands, and leaves the version that the answers leave.
+pub fn work_spells()
+    ensures { (c : CatalogData) (s : SettingsData) → WorkSpells c s }
+{}
+
+/// Workers may take their entries in whatever order, and what one answers doesn't depend on what
+/// another lane's did.
+pub fn works_are_apart()
+    ensures order { (c : CatalogData) (s : SettingsData) → WorksCommute c s }
+    ensures alone { (c : CatalogData) (s : SettingsData) → WorksAreAlone c s }
+{}
+
+/// After any steps, a worker that takes an entry changes what it keeps of a slot by what the entry
+/// tells the slot, and that is what stands in the machine: the version, whether the slot's opening
+/// is cut, and what is pending.
+pub fn workers_keep()
+    ensures { (c : CatalogData) (s : SettingsData) → WorkersKeep c s }
+{}
