@@ -1,6 +1,6 @@
 -- What a socket's frame asks for, by what the socket holds alone (the Realtime protocol, "Channels"): the replies and
 -- the refusals that need no catalogue, no table and no other socket, and for the rest an effect that names it.
-use Rattle.std.specs.Prelude.{ℕ, nat_le, Bool, true, false, ◌&&◌, not, if◌then◌else◌, List, [], ◌∷◌, ◌++◌, map, length}
+use Rattle.std.specs.Prelude.{ℕ, nat_lt, Bool, true, false, ◌&&◌, not, if◌then◌else◌, List, [], ◌∷◌, ◌++◌, map, length}
 use Rattle.std.specs.Prelude.{codes, find, Option, Some, None, option_to_list, Ok, Err}
 use Rattle.std.specs.List.{filter, flat_map}
 use Rattle.std.specs.Str.{bytes_eq}
@@ -74,7 +74,7 @@ is_as_secured secured false = not secured
 
 -- the channels beside one of the topic are as many as a slot may have
 abbrev pub is_full : Held → List ℕ → Bool
-is_full held topic = nat_le channel_limit (length (filter (λ j. not (is_joined_on topic j)) held.channels))
+is_full held topic = not (nat_lt (length (filter (λ j. not (is_joined_on topic j)) held.channels)) channel_limit)
 
 -- why what a message asks for is denied on a private channel: a broadcast and a track need their rights
 abbrev pub denied_ask : Joined → Ask → Option (List ℕ)

@@ -135,7 +135,7 @@ find_case p x xs y false e k (inl i) g = absurd (let z : false ≡ true = sym e 
 find_case p x xs y false e k (inr i) g = let r = g i in (r.0, r.1, inr r.2, r.3)
 
 -- where an element passes, one is found
-find_some : {A : Type 0} (p : A → Bool) (xs : List A) (y : A) → Among xs y → p y ≡ true
+pub find_some : {A : Type 0} (p : A → Bool) (xs : List A) (y : A) → Among xs y → p y ≡ true
     → (f : A) × (find p xs ≡ Some f) × Among xs f × (p f ≡ true)
 find_some p [] y h k = absurd h
 find_some p (x ∷ xs) y h k = find_case p x xs y (p x) refl k h (λ i. find_some p xs y i k)
@@ -224,6 +224,19 @@ made_by : {A : Type 0} (now : Now) (slot : ℕ) (topic : List ℕ) (r : Checked 
 made_by now slot topic (Ok x) f h = h x
 made_by now slot topic (Err why) f h = tt
 
+-- the channel of the slot on a topic is the one that is found
+pub found_one : (now : Now) → AreApart now.members → (slot : ℕ) (topic : List ℕ) (h : Member) → Among now.members h
+    → h.channel.slot ≡ slot → h.channel.topic ≡ topic → channel_on now slot topic ≡ Some h
+found_one now apart slot topic h here e t =
+    let test : Member → Bool = λ m. is_on topic m.channel in
+    let own : is_of_slot slot h ≡ true = ap (λ n. n == slot) e ∙ eqb_same slot in
+    let on : test h ≡ true = (bytes_eq-Decides h.channel.topic topic).1 t in
+    let r = find_some test (channels_of now slot) h (filter_among (is_of_slot slot) now.members h here own) on in
+    let f = among_filter (is_of_slot slot) now.members r.0 r.2 in
+    let slots : r.0.channel.slot ≡ h.channel.slot = eqb-true r.0.channel.slot slot f.1 ∙ sym e in
+    let topics : r.0.channel.topic ≡ h.channel.topic = (bytes_eq-Decides r.0.channel.topic topic).0 r.3 ∙ sym t in
+    r.1 ∙ ap (λ (m : Member). Some m) (apart r.0 h f.0 here slots topics)
+
 module _ (now : Now) (a : AllOf (Below now.number) now.members) (apart : AreApart now.members) where
   channels_below : (slot : ℕ) → AllOf (Below now.number) (channels_of now slot)
   channels_below slot = all_filter (Below now.number) (is_of_slot slot) now.members a
@@ -300,20 +313,6 @@ module _ (now : Now) (a : AllOf (Below now.number) now.members) (apart : AreApar
   found_below slot topic = find_of (Below now.number) (λ m. is_on topic m.channel) (channels_of now slot)
       (channels_below slot)
 
-  -- the channel of the slot on a topic is the one that is found
-  found_one : (slot : ℕ) (topic : List ℕ) (h : Member) → Among now.members h → h.channel.slot ≡ slot
-      → h.channel.topic ≡ topic
-      → channel_on now slot topic ≡ Some h
-  found_one slot topic h here e t =
-      let test : Member → Bool = λ m. is_on topic m.channel in
-      let own : is_of_slot slot h ≡ true = ap (λ n. n == slot) e ∙ eqb_same slot in
-      let on : test h ≡ true = (bytes_eq-Decides h.channel.topic topic).1 t in
-      let r = find_some test (channels_of now slot) h (filter_among (is_of_slot slot) now.members h here own) on in
-      let f = among_filter (is_of_slot slot) now.members r.0 r.2 in
-      let slots : r.0.channel.slot ≡ h.channel.slot = eqb-true r.0.channel.slot slot f.1 ∙ sym e in
-      let topics : r.0.channel.topic ≡ h.channel.topic = (bytes_eq-Decides r.0.channel.topic topic).0 r.3 ∙ sym t in
-      r.1 ∙ ap (λ (m : Member). Some m) (apart r.0 h f.0 here slots topics)
-
   abbrev closes : Option Member → List Part
   closes o = in_turn (close now) [] (option_to_list o)
 
@@ -321,7 +320,8 @@ module _ (now : Now) (a : AllOf (Below now.number) now.members) (apart : AreApar
       → h.channel.topic ≡ topic
       → has h.channel.number (departed_in (closes (channel_on now slot topic))) ≡ true
   room slot topic h here e t =
-      ap (λ (o : Option Member). has h.channel.number (departed_in (closes o))) (found_one slot topic h here e t)
+      ap (λ (o : Option Member). has h.channel.number (departed_in (closes o)))
+      (found_one now apart slot topic h here e t)
       ∙ or_left (h.channel.number == h.channel.number) _ (eqb_same h.channel.number)
 
   shape_result : (slot : ℕ) (gone : List ℕ) (m : Message) (front : List Part) (r : Checked Channel)

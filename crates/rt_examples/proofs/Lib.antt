@@ -3,6 +3,7 @@ mod ConditionsComputed
 mod CrowdComputed
 mod CutsComputed
 mod DeletesComputed
+mod EffectsComputed
 mod ErrorsComputed
 mod ExpiryComputed
 mod FacesComputed

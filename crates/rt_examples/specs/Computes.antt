@@ -20,6 +20,7 @@ use Rattle.rt_registry.specs.Bindings.{bindings_for}
 use Rattle.rt_private.specs.Rights.{messages_of, right, denial}
 use Rattle.rt_change.specs.Verdicts.{verdict_of}
 use Rattle.rt_change.specs.Shape.{shape_of}
+use Rattle.rt_channel.specs.Effects.{end_effects, tick_effects, effects_of}
 use Rattle.rt_entry.specs.Story.{joined, departed, members_at, standing_at, ids_given, all_tracks, present_at, edits_at}
 use Rattle.rt_entry.specs.Story.{every_slot, now_of}
 use Rattle.rt_entry.specs.Joining.{standing_for, channel_of_join, renewal_of}
@@ -40,6 +41,11 @@ admitted = tt
 unfoldable pub done : Unit {0}
 unfolding subscriptions poll_parts doings story
 done = tt
+
+-- what a socket asks for
+unfoldable pub wished : Unit {0}
+unfolding json_computes digits message_of admitted end_effects tick_effects effects_of
+wished = tt
 
 -- what slots get, and the machine
 unfoldable pub given : Unit {0}

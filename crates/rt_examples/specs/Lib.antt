@@ -4,6 +4,7 @@ pub mod Conditions
 pub mod Crowd
 pub mod Cuts
 pub mod Deletes
+pub mod Effects
 pub mod Errors
 pub mod Expiry
 pub mod Faces

@@ -1,6 +1,6 @@
 -- A policy that reads another table, which has row security of its own: members of a room see it. A service role
 -- bypasses row security, and no policy applies to a role without one.
-use Rattle.std.specs.Prelude.{◌≡◌, ℕ, List, [], ◌∷◌, ◌++◌, ◌&&◌, true, false, nat_le, codes, Option, Some, None}
+use Rattle.std.specs.Prelude.{◌≡◌, ℕ, List, [], ◌∷◌, ◌++◌, ◌&&◌, true, false, nat_le, codes, Some, None}
 use Rattle.std.proofs.Common.{lit<, ap, ◌∙◌}
 use Rattle.rt_value.specs.declared.value.Value.TheVariants as value
 use Rattle.rt_value.specs.declared.value.Kind.TheVariants as kind

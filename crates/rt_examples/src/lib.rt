@@ -15,6 +15,9 @@ ghost use Rattle.rt_examples.specs.Memberships.{PublicIsNoMember};
 ghost use Rattle.rt_examples.specs.Vectors.{TagIsKnown, TokenHasNoRole, TokenExpires};
 ghost use Rattle.rt_examples.specs.Vectors.{UnsignedIsRefused, TwoPartsAreNoToken};
 ghost use Rattle.rt_examples.specs.Frames.{ChannelsAreLimited, FramesAreAnswered, JoinsAreRefused};
+ghost use Rattle.rt_examples.specs.Effects.{BadFrameEnds, BroadcastIsSent, HeartbeatIsAnswered};
+ghost use Rattle.rt_examples.specs.Effects.{JoinIsWished, LeaveCloses, PrivateJoinIsRefused};
+ghost use Rattle.rt_examples.specs.Effects.{TicksAreAsked, TokenIsRefused};
 ghost use Rattle.rt_examples.specs.Errors.{ErrorsAreSent, HiddenKeyIsAnError};
 ghost use Rattle.rt_examples.specs.Deletes.{DeletesShowTheKey};
 ghost use Rattle.rt_examples.specs.Restrictive.{RestrictiveRefuses, StrangersSeeNone};
@@ -118,6 +121,18 @@ pub fn frames()
     ensures answered { FramesAreAnswered }
     ensures refused { JoinsAreRefused }
     ensures limited { ChannelsAreLimited }
+{}
+
+/// What frames and ticks ask for, by what a socket with one channel holds.
+pub fn effects()
+    ensures join { JoinIsWished }
+    ensures refused { PrivateJoinIsRefused }
+    ensures heartbeat { HeartbeatIsAnswered }
+    ensures broadcast { BroadcastIsSent }
+    ensures leave { LeaveCloses }
+    ensures token { TokenIsRefused }
+    ensures bad_frame { BadFrameEnds }
+    ensures ticks { TicksAreAsked }
 {}
 
 /// A slot with a hundred channels: a join over one of them is accepted, and one of another topic
