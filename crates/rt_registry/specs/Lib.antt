@@ -1,2 +1,2 @@
 pub mod Bindings
-pub mod ById
+pub mod Numbered
