@@ -1,5 +1,6 @@
 -- Values at their numbers: what an insertion and a removal of an entry make of them.
-use Rattle.std.proofs.Common.{◌≡◌, ℕ, ◌==◌, nat_lt, Bool, true, false, not, cond, List, [], ◌∷◌, ◌++◌, map, if◌then◌else◌, refl, ap, ap₂, sym, subst, ◌∙◌, arith}
+use Rattle.std.proofs.Common.{◌≡◌, ℕ, ◌==◌, nat_lt, Bool, true, false, not, cond, List, [], ◌∷◌, ◌++◌, map}
+use Rattle.std.proofs.Common.{if◌then◌else◌, refl, ap, ap₂, sym, subst, ◌∙◌, arith}
 use Rattle.std.specs.declared.cmp.Ordering.{Ordering}
 use Rattle.std.specs.declared.cmp.Ordering.TheVariants.{Less, Equal, Greater}
 use Rattle.std.specs.BTreeMap.{insert_entry}
@@ -54,7 +55,8 @@ module _ {V : Type 0} (number : V → ℕ) where
   abbrev Over : ℕ → List V → Type 0
   Over n vs = AllOf (λ w. nat_cmp n (number w) ≡ Less) vs
 
-  values_over : (n : ℕ) (es : List (ℕ × V)) → Keyed es → AllByRecursion (λ k. nat_cmp n k ≡ Less) (keys_of es) → Over n (values_of es)
+  values_over : (n : ℕ) (es : List (ℕ × V)) → Keyed es → AllByRecursion (λ k. nat_cmp n k ≡ Less) (keys_of es)
+      → Over n (values_of es)
   values_over n [] h over = tt
   values_over n (e ∷ es) h over = (subst (λ k. nat_cmp n k ≡ Less) h.0 over.0, values_over n es h.1 over.1)
 
@@ -77,7 +79,8 @@ module _ {V : Type 0} (number : V → ℕ) where
     where
       by : (r : Ordering) → nat_cmp (number v) e.0 ≡ r
           → values_of (insert_entry nat_cmp es (number v) v) ≡ put_at number v (values_of es)
-          → values_of (match_ordering r ((number v, v) ∷ e ∷ es) ((e.0, v) ∷ es) (e ∷ insert_entry nat_cmp es (number v) v))
+          → values_of
+          (match_ordering r ((number v, v) ∷ e ∷ es) ((e.0, v) ∷ es) (e ∷ insert_entry nat_cmp es (number v) v))
           ≡ put_at number v (e.1 ∷ values_of es)
       by Less is more =
           let behind = all_weaker _ (λ k. nat_cmp (number v) k ≡ Less) (keys_of es)
@@ -86,12 +89,12 @@ module _ {V : Type 0} (number : V → ℕ) where
       by Equal is more =
           let same : number v ≡ e.0 = same_is (number v) e.0 is in
           let one : number v ≡ number e.1 = same ∙ h.keyed.0 in
-          let low : nat_lt (number e.1) (number v) ≡ false = subst (λ k. nat_lt k (number v) ≡ false) one (not_less (number v)) in
-          let high : nat_lt (number v) (number e.1) ≡ false = subst (λ k. nat_lt (number v) k ≡ false) one (not_less (number v)) in
+          let low = subst (λ k. nat_lt k (number v) ≡ false) one (not_less (number v)) in
+          let high = subst (λ k. nat_lt (number v) k ≡ false) one (not_less (number v)) in
           let behind = subst (λ n. AllByRecursion (λ k. nat_cmp n k ≡ Less) (keys_of es)) (sym same) h.rising.0 in
           rw (low, high) (sym (put_first v (values_of es) (values_over (number v) es h.keyed.1 behind)))
       by Greater is more =
-          let key : nat_cmp (number v) (number e.1) ≡ Greater = subst (λ k. nat_cmp (number v) k ≡ Greater) h.keyed.0 is in
+          let key = subst (λ k. nat_cmp (number v) k ≡ Greater) h.keyed.0 is in
           rw (more_is (number v) (number e.1) key, more_back (number v) (number e.1) key) (ap (λ ys. e.1 ∷ ys) more)
 
   pub values-without : (n : ℕ) (es : List (ℕ × V)) → IsNumbered number es
@@ -135,11 +138,13 @@ module _ {V : Type 0} (number : V → ℕ) where
         | Greater ↦ (h.0, keyed-without n es h.1)
       ]
 
-  pub IsNumbered-insert : (v : V) (es : List (ℕ × V)) → IsNumbered number es → IsNumbered number (insert_entry nat_cmp es (number v) v)
+  pub IsNumbered-insert : (v : V) (es : List (ℕ × V)) → IsNumbered number es
+      → IsNumbered number (insert_entry nat_cmp es (number v) v)
   IsNumbered-insert v es h =
       record { keyed = keyed-insert v es h.keyed; rising = IsRising-insert nat_cmp_total (number v) v es h.rising }
 
-  pub IsNumbered-without : (n : ℕ) (es : List (ℕ × V)) → IsNumbered number es → IsNumbered number (without_key nat_cmp es n)
+  pub IsNumbered-without : (n : ℕ) (es : List (ℕ × V)) → IsNumbered number es
+      → IsNumbered number (without_key nat_cmp es n)
   IsNumbered-without n es h =
       record { keyed = keyed-without n es h.keyed; rising = IsRising-without nat_cmp n es h.rising }
 
