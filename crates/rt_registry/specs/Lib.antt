@@ -1,3 +1,3 @@
 pub mod Asked
 pub mod Bindings
-pub mod ById
+pub mod Numbered

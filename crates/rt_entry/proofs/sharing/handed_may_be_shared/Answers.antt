@@ -8,7 +8,8 @@ pub returns-clause-input : goal.returns-clause-input
 returns-clause-input c =
     let held = c.data_may_be_shared.ensures in
     let messages = c.messages_may_be_shared.ensures in
-    Input-crosses messages.version held.claims held.bytes messages.posting (changes_cross c.changes_may_be_shared.ensures)
+    Input-crosses messages.version held.claims held.bytes messages.posting
+    (changes_cross c.changes_may_be_shared.ensures)
 
 pub returns-clause-entry : goal.returns-clause-entry
 returns-clause-entry c =
