@@ -3,9 +3,10 @@ use rt_cluster::Dot;
 use std::alloc::{AllocError, Global};
 use std::collections::{BTreeMap, BTreeSet};
 
-/// How many topics and keys there are.
+/// How many topics there are.
 pub const TOPICS: u32 = 4;
 
+/// How many keys a topic has.
 pub const KEYS: u32 = 8;
 
 /// What a track shows.
@@ -23,6 +24,7 @@ pub struct Deed {
     pub gone: Vec<Dot>,
 }
 
+/// The marks that a node knows, and the dots of those that are gone.
 #[derive(Drop)]
 pub struct Model {
     marks: BTreeMap<Dot, Shown>,
@@ -30,6 +32,7 @@ pub struct Model {
 }
 
 impl Model {
+    /// Nothing is known.
     pub fn new(alloc: Global) -> Self {
         Model {
             marks: BTreeMap::new(alloc),
@@ -57,6 +60,7 @@ impl Model {
         Ok(dots)
     }
 
+    /// Puts the mark in, where it isn't gone.
     pub fn hear_of_mark(&mut self, dot: Dot, shown: Shown) -> Result<(), AllocError> {
         if self.gone.contains(&dot) {
             return Ok(());
@@ -67,6 +71,7 @@ impl Model {
         }
     }
 
+    /// The mark of the dot is gone, whether it is known or comes later.
     pub fn hear_of_gone(&mut self, dot: Dot) -> Result<(), AllocError> {
         self.marks.remove(&dot);
         match self.gone.insert(dot) {
@@ -75,6 +80,7 @@ impl Model {
         }
     }
 
+    /// Takes in one operation.
     pub fn hear(&mut self, deed: &Deed) -> Result<(), AllocError> {
         if let Some((dot, shown)) = deed.made {
             self.hear_of_mark(dot, shown)?;
@@ -85,6 +91,7 @@ impl Model {
         Ok(())
     }
 
+    /// Takes in all that the other knows.
     pub fn hear_all(&mut self, other: &Model) -> Result<(), AllocError> {
         for dot in &other.gone {
             self.hear_of_gone(*dot)?;

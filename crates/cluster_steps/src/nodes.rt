@@ -15,12 +15,14 @@ struct Node {
     model: Model,
 }
 
+/// What an operation told, and what it did.
 #[derive(Drop)]
 struct Told {
     delta: Delta,
     deed: Deed,
 }
 
+/// The nodes, all that was told, and counts of what was done.
 #[derive(Drop)]
 pub struct Nodes {
     nodes: Vec<Node>,
@@ -57,6 +59,7 @@ fn shown_state(alloc: Global, replica: &Replica, topic: u32) -> io::Result<Strin
 }
 
 impl Nodes {
+    /// Nodes that know nothing.
     pub fn new(alloc: Global) -> io::Result<Self> {
         let mut nodes = Vec::new(alloc);
         for number in 0..COUNT {
@@ -74,22 +77,27 @@ impl Nodes {
         })
     }
 
+    /// How many operations there were.
     pub fn told(&self) -> usize {
         self.told.len()
     }
 
+    /// How many deltas were given.
     pub fn given(&self) -> u32 {
         self.given
     }
 
+    /// How many states were compared.
     pub fn compared(&self) -> u32 {
         self.compared
     }
 
+    /// How many of those differed.
     pub fn differing(&self) -> u32 {
         self.differing
     }
 
+    /// The node tracks a value. The word says under which key of which topic.
     pub fn track(&mut self, alloc: Global, node: u32, word: u32, value: u32) -> io::Result<()> {
         let (topic, key) = place_of(word);
         let Some(own) = self.nodes.get_mut(node as usize) else {
@@ -120,6 +128,7 @@ impl Nodes {
         Ok(self.told.push(Told { delta, deed })?)
     }
 
+    /// The node ends what it tracks under the key of the topic that the word says.
     pub fn untrack(&mut self, alloc: Global, node: u32, word: u32) -> io::Result<()> {
         let (topic, key) = place_of(word);
         let Some(own) = self.nodes.get_mut(node as usize) else {
@@ -134,6 +143,7 @@ impl Nodes {
         Ok(self.told.push(Told { delta, deed })?)
     }
 
+    /// The node removes what the other shows.
     pub fn drop_node(&mut self, alloc: Global, node: u32, other: u32) -> io::Result<()> {
         let Some(own) = self.nodes.get_mut(node as usize) else {
             return failed();
@@ -180,6 +190,7 @@ impl Nodes {
         Ok(())
     }
 
+    /// Gives all that each node knows to all.
     pub fn sync_all(&mut self, alloc: Global) -> io::Result<()> {
         for from in 0..COUNT {
             for to in 0..COUNT {

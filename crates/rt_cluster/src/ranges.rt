@@ -43,6 +43,7 @@ fn begins_behind(last: &Dot, first: u32, dot: &Dot) -> bool
     last.node == dot.node && first > dot.number && first - dot.number == 1
 }
 
+// The last dot of the range that begins right behind the dot, or the dot where there is none.
 fn last_with(ranges: &Ranges, dot: &Dot) -> Dot
     requires { AreRanges ranges.now }
     ensures { IsLastWith ranges.now dot.now result }
