@@ -121,15 +121,20 @@ module _ (c : Catalog) (s : Settings) where
   sound_keeps =
       let good = good_keeps c s in
       record {
-        inlet = λ w slot is h. (good.inlet w slot is h.0, slots_old w slot (record (w.slots slot) { inlet = is }) h.1
-        (h.1 slot));
+        inlet = λ w slot is h. (
+          good.inlet w slot is h.0,
+          slots_old w slot (record (w.slots slot) { inlet = is }) h.1
+              (h.1 slot),
+        );
         feed = λ w is h. (good.feed w is h.0, h.1);
         clock = λ w is h. (good.clock w is h.0, h.1);
         journal = λ w i h room. (good.journal w i h.0 room, journal_old w i h.0 h.1);
         sent = λ w l h e. (good.sent w l h.0 e, lanes_old w l (one_sent (w.lanes l)) h.1 (λ slot k. k));
         worked = λ w l h e. (good.worked w l h.0 e, lanes_old w l (one_worked (w.lanes l)) h.1 (more_old w l));
-        given = λ w slot p ps h e room. (good.given w slot p ps h.0 e room,
-        slots_old w slot (with_given (w.slots slot) p) h.1 (h.1 slot));
+        given = λ w slot p ps h e room. (
+          good.given w slot p ps h.0 e room,
+          slots_old w slot (with_given (w.slots slot) p) h.1 (h.1 slot),
+        );
         cut = λ w slot p ps h e full. (good.cut w slot p ps h.0 e full, cut_old w slot p ps h.1 e);
         popped = λ w slot h. (good.popped w slot h.0, slots_old w slot (one_popped (w.slots slot)) h.1 (h.1 slot));
       }
