@@ -19,7 +19,7 @@ use Rattle.rt_entry.specs.declared.story.Channel.{Channel}
 use Rattle.rt_entry.specs.declared.story.Member.{Member}
 use Rattle.rt_entry.specs.declared.story.Part.{Part}
 use Rattle.rt_entry.specs.Story.{Now, now_of, tables_left, every_slot, opening_at, joined, ids_given}
-use Rattle.rt_entry.specs.Joining.{channel_limit}
+use Rattle.rt_phx.specs.Limits.{channel_limit}
 use Rattle.rt_entry.specs.Doings.{story, is_of_slot, is_on, channels_of, others}
 use Rattle.rt_entry.specs.After.{found_by, done_by, joins_of, remains, renewed, new_member, after}
 use Rattle.rt_entry.specs.Ids.{RiseWithin}

@@ -24,8 +24,10 @@ use Rattle.rt_entry.specs.declared.story.Channel.{Channel}
 use Rattle.rt_entry.specs.declared.story.Member.{Member}
 use Rattle.rt_entry.specs.declared.story.Part.{Part}
 use Rattle.rt_entry.specs.Story.{Now, now_of, tables_left, renewed_by, first_or}
-use Rattle.rt_entry.specs.Joining.{Checked, ◌>>◌, or_why, demand, told_by, registry_text, channel_limit, binding_of}
-use Rattle.rt_entry.specs.Joining.{asked_claims, unless, is_as_private, denied, standing_for, made_channel}
+use Rattle.rt_phx.specs.Checked.{Checked, ◌>>◌, or_why, demand, told_by, unless}
+use Rattle.rt_phx.specs.Limits.{channel_limit}
+use Rattle.rt_registry.specs.Asked.{binding_of, registry_text}
+use Rattle.rt_entry.specs.Joining.{asked_claims, is_as_private, denied, standing_for, made_channel}
 use Rattle.rt_entry.specs.Joining.{channel_of_join, renewal_of}
 use Rattle.rt_entry.specs.Doings.{story, others}
 use Rattle.rt_entry.specs.After.{found_by, done_by, joins_of, remains, renewed, new_member, members_after, after}

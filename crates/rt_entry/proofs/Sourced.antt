@@ -38,7 +38,8 @@ use Rattle.rt_entry.specs.declared.story.Part.TheVariants.{Opens, Ends, Tells, J
 use Rattle.rt_entry.specs.declared.entry.ChannelView.{ChannelView}
 use Rattle.rt_entry.specs.Story.{Now, departed_in, renewed_by}
 use Rattle.rt_entry.specs.Messages.{subscribed_message, presence_state}
-use Rattle.rt_entry.specs.Joining.{Checked, channel_of_join, renewal_of}
+use Rattle.rt_phx.specs.Checked.{Checked}
+use Rattle.rt_entry.specs.Joining.{channel_of_join, renewal_of}
 use Rattle.rt_entry.specs.Doings.{tell, in_turn, opening_in, is_of_slot, is_on, channels_of, channel_on, track_of}
 use Rattle.rt_entry.specs.Doings.{watches, diff_to, diffs, leave_diffs, depart, end_of, end_if_open, close, fail}
 use Rattle.rt_entry.specs.Doings.{tell_if, open_parts, has_bindings, present_on, join_result_parts, others}

@@ -2,7 +2,6 @@ pub mod Access
 pub mod After
 pub mod Answers
 pub mod Audit
-pub mod ByNumber
 pub mod Bounds
 pub mod Departing
 pub mod Doings

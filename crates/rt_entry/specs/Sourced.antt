@@ -9,7 +9,7 @@ use Rattle.rt_entry.specs.declared.input.Settings.{Settings}
 use Rattle.rt_entry.specs.declared.story.Channel.{Channel}
 use Rattle.rt_entry.specs.declared.story.Member.{Member}
 use Rattle.rt_entry.specs.Story.{slot_count}
-use Rattle.rt_entry.specs.Joining.{channel_limit}
+use Rattle.rt_phx.specs.Limits.{channel_limit}
 use Rattle.rt_entry.specs.Doings.{story, channels_of}
 use Rattle.rt_entry.specs.After.{found_by, done_by, joins_of}
 use Rattle.rt_entry.specs.Ids.{RiseWithin}
