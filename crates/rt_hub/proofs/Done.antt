@@ -42,15 +42,15 @@ use Rattle.rt_entry.specs.declared.story.Opening.{Opening}
 use Rattle.rt_entry.specs.declared.story.Standing.{Standing}
 use Rattle.rt_entry.specs.declared.story.Channel.{Channel}
 use Rattle.rt_entry.specs.declared.story.Member.{Member}
-use Rattle.rt_entry.specs.declared.story.Track.{Track}
 use Rattle.rt_entry.specs.declared.story.Part.{Part}
 use Rattle.rt_entry.specs.declared.story.Part.TheVariants.{Ends, Tells}
 use Rattle.rt_entry.specs.Story.{Now, departed_in}
 use Rattle.rt_entry.specs.Joining.{is_as_private, standing_for, made_channel, channel_of_join, renewal_of}
-use Rattle.rt_entry.specs.Doings.{tell, in_turn, is_of_slot, is_on, channels_of, channel_on, track_of, watches, diff_to}
-use Rattle.rt_entry.specs.Doings.{leave_diffs, depart, end_of, close, fail, tell_if, others, has_run_out, tick_parts}
+use Rattle.rt_entry.specs.Doings.{tell, in_turn, is_of_slot, is_on, channels_of, channel_on, track_of}
+use Rattle.rt_entry.specs.Doings.{depart, end_of, close, fail, tell_if, others, has_run_out, tick_parts}
 use Rattle.rt_entry.specs.Doings.{join_result_parts, join_over_former, join_parts, renewal_parts, denied_ask, ask_parts}
 use Rattle.rt_entry.specs.Doings.{judged_parts, channel_parts, message_parts, renew_parts}
+use Rattle.rt_entry.proofs.PlainParts.{none_leave}
 use Rattle.rt_entry.proofs.Shapes.{AreApart, found_one}
 use Rattle.rt_hub.specs.Sockets.{joined_of, held_of}
 use Rattle.rt_hub.specs.Doing.{join_of, renew_at, at_channel, broadcast_at, track_at, untrack_at, channel_of_wish, standing_by}
@@ -75,14 +75,6 @@ turn_same f g e gone [] = refl
 turn_same f g e gone (x ∷ xs) =
     ap (λ (ps : List Part). ps ++ in_turn f (departed_in ps ++ gone) xs) (e gone x)
     ∙ ap (λ (ps : List Part). g gone x ++ ps) (turn_same f g e (departed_in (g gone x) ++ gone) xs)
-
-none_depart_told : (joins leaves : List Track) (hs : List Member) → departed_in (map (diff_to joins leaves) hs) ≡ []
-none_depart_told joins leaves [] = refl
-none_depart_told joins leaves (h ∷ hs) = none_depart_told joins leaves hs
-
-none_depart : (now : Now) (gone : List ℕ) (o : Option Track) → departed_in (leave_diffs now gone o) ≡ []
-none_depart now gone None = refl
-none_depart now gone (Some t) = none_depart_told [] (t ∷ []) (filter (watches gone t.topic) now.members)
 
 as_secured : (c : Catalog) (b : Bool) → is_as_private c b ≡ is_as_secured (is_some (messages_of c)) b
 as_secured c true = refl
@@ -272,7 +264,7 @@ module _ (c : Catalog) (now : Now) (tables : List (List Row)) (slot : ℕ) where
         ap (λ (ps : List Part). ps ++ join_result_parts now slot (n ∷ []) m made) (append-nil (close now [] h))
         ∙ ap (λ (ps : List Part). close now [] h ++ ps) (result_done m (n ∷ []))
         ∙ ap (λ (ns : List ℕ). close now [] h ++ in_turn act ((n ∷ ns) ++ []) result)
-        (sym (none_depart now (n ∷ []) (track_of now n)))
+        (sym (none_leave now (n ∷ []) (track_of now n)))
         ∙ ap more (sym (on_own (close now []) h own))
 
     join_done : AreApart now.members → (m : Message)
