@@ -1,5 +1,6 @@
 -- What effects do is what the journal says, case by case.
-use Rattle.std.proofs.Common.{◌≡◌, ℕ, Bool, true, false, not, cond, List, [], ◌∷◌, ◌++◌, map, length, Option, Some, None}
+use Rattle.std.proofs.Common.{◌≡◌, ℕ, Bool, true, false, not, cond, List, [], ◌∷◌, ◌++◌, map, length, Option, Some}
+use Rattle.std.proofs.Common.{None}
 use Rattle.std.proofs.Common.{refl, sym, ap, subst, ◌∙◌, append-nil, append_assoc}
 use Rattle.std.specs.Prelude.{nat_lt, codes, find, if◌then◌else◌, option_map, option_to_list, Ok, Err, is_some}
 use Rattle.std.specs.List.{filter, flat_map}
@@ -53,7 +54,8 @@ use Rattle.rt_entry.specs.Doings.{judged_parts, channel_parts, message_parts, re
 use Rattle.rt_entry.proofs.PlainParts.{none_leave}
 use Rattle.rt_entry.proofs.Shapes.{AreApart, found_one}
 use Rattle.rt_hub.specs.Sockets.{joined_of, held_of}
-use Rattle.rt_hub.specs.Doing.{join_of, renew_at, at_channel, broadcast_at, track_at, untrack_at, channel_of_wish, standing_by}
+use Rattle.rt_hub.specs.Doing.{join_of, renew_at, at_channel, broadcast_at, track_at, untrack_at, channel_of_wish}
+use Rattle.rt_hub.specs.Doing.{standing_by}
 use Rattle.rt_hub.specs.Doing.{parts_of_effect}
 
 find_map_swap : {A B : Type 0} (p : B → Bool) (f : A → B) (xs : List A)
@@ -240,7 +242,8 @@ module _ (c : Catalog) (now : Now) (tables : List (List Row)) (slot : ℕ) where
         let token = member_of m.payload (codes "access_token") in
         let claims = claims_for s.secret now.number now.moment held token in
         let room = nat_lt (others now slot m.topic) channel_limit in
-        step m (λ config. demand (is_as_private c config.private) private_channel >> λ _. claims >> judged m config room)
+        step m (λ config. demand (is_as_private c config.private) private_channel >> λ _.
+        claims >> judged m config room)
         (λ config. demand (is_as_secured held.secured config.private) private_channel >> λ _.
         claims >> λ x. Ok (wish_of now.number held m config x)) (λ config.
         let rest : Bool → Checked Wish = λ _. claims >> λ x. Ok (wish_of now.number held m config x) in

@@ -107,7 +107,8 @@ same_members ps (h ∷ hs) r =
 
 -- the members behind parts that renew nobody, as a registry has them
 members_less : (hs : List Member) (ps : List Part) → AllOf Renewless ps
-    → registry_of (members_after hs ps) ≡ filter (stays ps) (registry_of hs) ++ registry_of (map new_member (joins_of ps))
+    → registry_of (members_after hs ps)
+    ≡ filter (stays ps) (registry_of hs) ++ registry_of (map new_member (joins_of ps))
 members_less hs ps r =
     let here = filter (remains ps) hs in
     let new = map new_member (joins_of ps) in
@@ -174,7 +175,8 @@ joining_follows b n hs front back ch f g e r =
     members_less hs ps r
     ∙ ap (λ (js : List Channel). filter (stays ps) ks ++ registry_of (map new_member js))
     (around_joins b n front (Joins ch) back f g)
-    ∙ ap (λ (js : List Kept). js ++ new ∷ []) (sym (filter_same (λ k. stays front k && stays back k) (stays ps) split ks))
+    ∙ ap (λ (js : List Kept). js ++ new ∷ [])
+    (sym (filter_same (λ k. stays front k && stays back k) (stays ps) split ks))
     ∙ ap (λ (js : List Kept). js ++ new ∷ []) (filter_and (stays back) (stays front) ks)
     ∙ ap (λ (t : Bool). filter (stays back) (filter (stays front) ks) ++ cond t (new ∷ []) []) (sym own)
     ∙ sym (filter-append (stays back) (filter (stays front) ks) (new ∷ []))

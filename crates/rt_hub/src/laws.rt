@@ -14,9 +14,9 @@ pub fn effects_are_done()
     ensures ends { (c : CatalogData) (s : SettingsData) → EndsAreDone c s }
 {}
 
-/// What a registry keeps of the members behind an input is what it kept before, changed by each part
-/// of the input in turn: a join adds a channel, a renewal changes its role and claims, a departure
-/// takes it away. Its subscriptions are those of the members.
+/// What a registry keeps of the members behind an input is what it kept before, changed by each
+/// part of the input in turn: a join adds a channel, a renewal changes its role and claims, a
+/// departure takes it away. Its subscriptions are those of the members.
 pub fn registry_follows()
     ensures kept { SubscriptionsAreKept }
     ensures follows { (c : CatalogData) (s : SettingsData) → RegistryFollows c s }
