@@ -29,12 +29,15 @@ use Rattle.rt_channel.specs.declared.effect.Wish.{Wish}
 use Rattle.rt_channel.specs.declared.held.Held.{Held}
 use Rattle.rt_channel.specs.declared.held.Joined.{Joined}
 
+-- the channel is on the topic
 abbrev pub is_joined_on : List ℕ → Joined → Bool
 is_joined_on topic j = bytes_eq j.topic topic
 
+-- the channel of a topic, where the socket has one
 abbrev pub joined_on : Held → List ℕ → Option Joined
 joined_on held topic = find (is_joined_on topic) held.channels
 
+-- one message, or one where a test holds
 abbrev pub say : Message → List Effect
 say m = Say m ∷ []
 
@@ -42,6 +45,7 @@ abbrev pub say_if : Bool → Message → List Effect
 say_if true m = say m
 say_if false m = []
 
+-- a channel departs, silently or told
 abbrev pub leave_of : Joined → Effect
 leave_of j = Leave j.topic
 
@@ -56,6 +60,7 @@ fail reason j = Say (failed_on j.join_ref j.topic reason) ∷ close_of j ∷ []
 unfoldable pub end_effects : EndName → Held → List Effect
 end_effects name held = map leave_of held.channels ++ End name ∷ []
 
+-- the claims of a channel have run out at a moment
 abbrev pub has_run_out : ℕ → Joined → Bool
 has_run_out moment j = is_expired (seconds_of moment) j.claims.exp
 
@@ -82,10 +87,11 @@ denied_ask j ask.broadcast = j.send
 denied_ask j (track tree) = j.track
 denied_ask j _ = None
 
+-- it is about presence, on a channel without it
 abbrev pub is_shut : Joined → Message → Bool
 is_shut j m = is_presence m && not j.presence
 
--- the join's number in the journal gives a channel without a key its own
+-- a join by its config and its claims; its number in the journal gives a channel without a key its own
 abbrev pub wish_of : ℕ → Held → Message → Config → Claims → Wish
 wish_of number held m config claims =
     record {
@@ -101,16 +107,19 @@ wish_of number held m config claims =
       full = is_full held m.topic;
     }
 
+-- claims that a token gives, or the reason why it gives none
 abbrev pub renewal_effects : Joined → Checked Claims → List Effect
 renewal_effects j (Ok claims) = Renew j.topic claims ∷ []
 renewal_effects j (Err why) = fail why j
 
+-- a join that is wished, or the reason against it
 abbrev pub join_result_effects : Message → Checked Wish → List Effect
 join_result_effects m (Ok wish) = Join wish ∷ []
 join_result_effects m (Err why) = say (reply_error m.join_ref m why)
 
 -- the secret of tokens, the number of the input in the journal, the moment before it
 module _ (secret : List ℕ) (number moment : ℕ) (held : Held) where
+  -- the claims that a payload asks for, at the moment before it
   abbrev pub claims_for : Option Json → Checked Claims
   claims_for token = claims_or_text secret (seconds_of moment) held.claims token
 
@@ -130,6 +139,7 @@ module _ (secret : List ℕ) (number moment : ℕ) (held : Held) where
         | false ↦ say (reply_error m.join_ref m unmatched_topic)
       ]
 
+  -- access_token. Without a token it asks for nothing.
   abbrev pub renew_effects : Joined → Option Json → List Effect
   renew_effects j None = []
   renew_effects j (Some token) = renewal_effects j (claims_for (Some token))
@@ -144,6 +154,7 @@ module _ (secret : List ℕ) (number moment : ℕ) (held : Held) where
   ask_effects j m unknown_presence = say (reply_error j.join_ref m unknown_presence_event)
   ask_effects j m nothing = []
 
+  -- presence is asked of a channel that has it alone
   abbrev pub permitted_effects : Joined → Message → List Effect
   permitted_effects j m =
       elim (is_shut j m) [
@@ -156,6 +167,7 @@ module _ (secret : List ℕ) (number moment : ℕ) (held : Held) where
   judged_effects j m None = permitted_effects j m
   judged_effects j m (Some why) = say (reply_error j.join_ref m why)
 
+  -- a message on a topic, joined or not
   abbrev pub channel_effects : Message → Option Joined → List Effect
   channel_effects m None = say (reply_error m.join_ref m unmatched_topic)
   channel_effects m (Some j) = judged_effects j m (denied_ask j (ask_of m))
@@ -168,5 +180,6 @@ module _ (secret : List ℕ) (number moment : ℕ) (held : Held) where
       else (if is_join m then join_effects m
       else channel_effects m (joined_on held m.topic))
 
+  -- what the bytes of a frame ask for
   unfoldable pub effects_of : List ℕ → List Effect
   effects_of bytes = message_effects (message_of held.version bytes)

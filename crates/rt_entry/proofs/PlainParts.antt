@@ -1,9 +1,9 @@
 -- What parts of an input that are plain or quiet leave, and what an input's parts leave by their shape.
-use Rattle.std.proofs.Common.{◌≡◌, ◌⊎◌, ℕ, ◌<◌, ◌≤◌, Bool, true, false, ◌||◌, List, [], ◌∷◌, ◌++◌}
-use Rattle.std.proofs.Common.{Some, refl, sym, ap, ◌∙◌, append-nil, arith, inl, inr}
+use Rattle.std.proofs.Common.{◌≡◌, ◌⊎◌, ℕ, ◌<◌, ◌≤◌, Bool, true, false, ◌||◌, List, [], ◌∷◌, ◌++◌, map, Option}
+use Rattle.std.proofs.Common.{Some, None, refl, sym, ap, ◌∙◌, append-nil, arith, inl, inr}
 use Rattle.std.proofs.Common.{eqb}
 use Rattle.std.specs.Prelude.{◌==◌}
-use Rattle.std.specs.List.{filter_map, list_any}
+use Rattle.std.specs.List.{filter, filter_map, list_any}
 use Rattle.std.proofs.lemmas.Bool.Decides.{nat_tests}
 use Rattle.std.proofs.lemmas.List.Concat.{flat_map-append}
 use Rattle.std.proofs.lemmas.List.Elements.{filter_map-append}
@@ -13,7 +13,8 @@ use Rattle.rt_entry.specs.declared.story.Member.{Member}
 use Rattle.rt_entry.specs.declared.story.Track.{Track}
 use Rattle.rt_entry.specs.declared.story.Part.{Part}
 use Rattle.rt_entry.specs.declared.story.Part.TheVariants.{Opens, Ends, Tells, Joins, Renews, Tracks, Untracks, Departs}
-use Rattle.rt_entry.specs.Story.{joined_by, departed_by, departed_in, renewed_by}
+use Rattle.rt_entry.specs.Doings.{watches, diff_to, leave_diffs}
+use Rattle.rt_entry.specs.Story.{Now, joined_by, departed_by, departed_in, renewed_by}
 use Rattle.rt_entry.specs.Story.{has, tracked_by}
 use Rattle.rt_entry.specs.Story.{standing_tracks}
 use Rattle.rt_entry.specs.After.{joins_of, tracks_in}
@@ -186,3 +187,11 @@ shape_tracks b n hs ps (tracking front t back f g k lt own e) =
       lt,
       own,
     )
+
+pub no_departures : (joins leaves : List Track) (ms : List Member) → departed_in (map (diff_to joins leaves) ms) ≡ []
+no_departures joins leaves [] = refl
+no_departures joins leaves (m ∷ ms) = no_departures joins leaves ms
+
+pub none_leave : (now : Now) (gone : List ℕ) (o : Option Track) → departed_in (leave_diffs now gone o) ≡ []
+none_leave now gone None = refl
+none_leave now gone (Some t) = no_departures [] (t ∷ []) (filter (watches gone t.topic) now.members)

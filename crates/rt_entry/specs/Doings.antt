@@ -1,7 +1,7 @@
 -- What each input does, by cases, asked of all that stands before it (the Realtime protocol, "Channels", "Broadcast",
 -- "Presence", "Postgres Changes").
-use Rattle.std.specs.Prelude.{ℕ, ◌==◌, ◌+◌, nat_lt, nat_le, Bool, true, false, ◌&&◌, ◌||◌, not, if◌then◌else◌, List, []}
-use Rattle.std.specs.Prelude.{◌∷◌, ◌++◌, map, length, codes, find, slice_get, Option, Some, None, is_none}
+use Rattle.std.specs.Prelude.{ℕ, ◌==◌, nat_lt, Bool, true, false, ◌&&◌, ◌||◌, not, if◌then◌else◌, List, []}
+use Rattle.std.specs.Prelude.{◌∷◌, ◌++◌, map, length, find, slice_get, Option, Some, None, is_none}
 use Rattle.std.specs.Prelude.{option_to_list, Ok, Err}
 use Rattle.std.specs.List.{filter, flat_map, enumerate_from}
 use Rattle.std.specs.Str.{bytes_eq}

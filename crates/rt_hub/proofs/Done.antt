@@ -1,5 +1,6 @@
 -- What effects do is what the journal says, case by case.
-use Rattle.std.proofs.Common.{◌≡◌, ℕ, Bool, true, false, not, cond, List, [], ◌∷◌, ◌++◌, map, length, Option, Some, None}
+use Rattle.std.proofs.Common.{◌≡◌, ℕ, Bool, true, false, not, cond, List, [], ◌∷◌, ◌++◌, map, length, Option, Some}
+use Rattle.std.proofs.Common.{None}
 use Rattle.std.proofs.Common.{refl, sym, ap, subst, ◌∙◌, append-nil, append_assoc}
 use Rattle.std.specs.Prelude.{nat_lt, codes, find, if◌then◌else◌, option_map, option_to_list, Ok, Err, is_some}
 use Rattle.std.specs.List.{filter, flat_map}
@@ -42,18 +43,19 @@ use Rattle.rt_entry.specs.declared.story.Opening.{Opening}
 use Rattle.rt_entry.specs.declared.story.Standing.{Standing}
 use Rattle.rt_entry.specs.declared.story.Channel.{Channel}
 use Rattle.rt_entry.specs.declared.story.Member.{Member}
-use Rattle.rt_entry.specs.declared.story.Track.{Track}
 use Rattle.rt_entry.specs.declared.story.Part.{Part}
 use Rattle.rt_entry.specs.declared.story.Part.TheVariants.{Ends, Tells}
 use Rattle.rt_entry.specs.Story.{Now, departed_in}
 use Rattle.rt_entry.specs.Joining.{is_as_private, standing_for, made_channel, channel_of_join, renewal_of}
-use Rattle.rt_entry.specs.Doings.{tell, in_turn, is_of_slot, is_on, channels_of, channel_on, track_of, watches, diff_to}
-use Rattle.rt_entry.specs.Doings.{leave_diffs, depart, end_of, close, fail, tell_if, others, has_run_out, tick_parts}
+use Rattle.rt_entry.specs.Doings.{tell, in_turn, is_of_slot, is_on, channels_of, channel_on, track_of}
+use Rattle.rt_entry.specs.Doings.{depart, end_of, close, fail, tell_if, others, has_run_out, tick_parts}
 use Rattle.rt_entry.specs.Doings.{join_result_parts, join_over_former, join_parts, renewal_parts, denied_ask, ask_parts}
 use Rattle.rt_entry.specs.Doings.{judged_parts, channel_parts, message_parts, renew_parts}
+use Rattle.rt_entry.proofs.PlainParts.{none_leave}
 use Rattle.rt_entry.proofs.Shapes.{AreApart, found_one}
 use Rattle.rt_hub.specs.Sockets.{joined_of, held_of}
-use Rattle.rt_hub.specs.Doing.{join_of, renew_at, at_channel, broadcast_at, track_at, untrack_at, channel_of_wish, standing_by}
+use Rattle.rt_hub.specs.Doing.{join_of, renew_at, at_channel, broadcast_at, track_at, untrack_at, channel_of_wish}
+use Rattle.rt_hub.specs.Doing.{standing_by}
 use Rattle.rt_hub.specs.Doing.{parts_of_effect}
 
 find_map_swap : {A B : Type 0} (p : B → Bool) (f : A → B) (xs : List A)
@@ -75,14 +77,6 @@ turn_same f g e gone [] = refl
 turn_same f g e gone (x ∷ xs) =
     ap (λ (ps : List Part). ps ++ in_turn f (departed_in ps ++ gone) xs) (e gone x)
     ∙ ap (λ (ps : List Part). g gone x ++ ps) (turn_same f g e (departed_in (g gone x) ++ gone) xs)
-
-none_depart_told : (joins leaves : List Track) (hs : List Member) → departed_in (map (diff_to joins leaves) hs) ≡ []
-none_depart_told joins leaves [] = refl
-none_depart_told joins leaves (h ∷ hs) = none_depart_told joins leaves hs
-
-none_depart : (now : Now) (gone : List ℕ) (o : Option Track) → departed_in (leave_diffs now gone o) ≡ []
-none_depart now gone None = refl
-none_depart now gone (Some t) = none_depart_told [] (t ∷ []) (filter (watches gone t.topic) now.members)
 
 as_secured : (c : Catalog) (b : Bool) → is_as_private c b ≡ is_as_secured (is_some (messages_of c)) b
 as_secured c true = refl
@@ -248,7 +242,8 @@ module _ (c : Catalog) (now : Now) (tables : List (List Row)) (slot : ℕ) where
         let token = member_of m.payload (codes "access_token") in
         let claims = claims_for s.secret now.number now.moment held token in
         let room = nat_lt (others now slot m.topic) channel_limit in
-        step m (λ config. demand (is_as_private c config.private) private_channel >> λ _. claims >> judged m config room)
+        step m (λ config. demand (is_as_private c config.private) private_channel >> λ _.
+        claims >> judged m config room)
         (λ config. demand (is_as_secured held.secured config.private) private_channel >> λ _.
         claims >> λ x. Ok (wish_of now.number held m config x)) (λ config.
         let rest : Bool → Checked Wish = λ _. claims >> λ x. Ok (wish_of now.number held m config x) in
@@ -272,7 +267,7 @@ module _ (c : Catalog) (now : Now) (tables : List (List Row)) (slot : ℕ) where
         ap (λ (ps : List Part). ps ++ join_result_parts now slot (n ∷ []) m made) (append-nil (close now [] h))
         ∙ ap (λ (ps : List Part). close now [] h ++ ps) (result_done m (n ∷ []))
         ∙ ap (λ (ns : List ℕ). close now [] h ++ in_turn act ((n ∷ ns) ++ []) result)
-        (sym (none_depart now (n ∷ []) (track_of now n)))
+        (sym (none_leave now (n ∷ []) (track_of now n)))
         ∙ ap more (sym (on_own (close now []) h own))
 
     join_done : AreApart now.members → (m : Message)

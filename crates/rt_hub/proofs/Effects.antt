@@ -64,7 +64,8 @@ module _ (c : Catalog) (s : Settings) where
   pub ends_done : EndsAreDone c s
   unfolding doings socket_of
   ends_done now tables slot apart =
-      let done : (name : EndName) → end_if_open now slot name (opening_in now slot) ≡ parts_of_effects c now tables slot []
+      let done : (name : EndName) → end_if_open now slot name (opening_in now slot)
+      ≡ parts_of_effects c now tables slot []
       (asked (end_effects name) (option_map (held_of c now slot) (opening_in now slot)))
       = λ name. end_if_done now tables slot name (apart_of now apart) (opening_in now slot) in (
         done end_name.Gone,

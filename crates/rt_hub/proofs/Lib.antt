@@ -1,2 +1,4 @@
 mod Done
 mod Effects
+mod Registered
+mod Renewing

@@ -51,19 +51,23 @@ at_channel act (Some h) = act h
 abbrev pub join_of : Wish → Message
 join_of w = message w.join_ref w.reference w.topic (codes "phx_join") no_members
 
+-- a channel has new claims, or is told why not and closes
 abbrev pub renew_at : Now → List ℕ → Checked Standing → Member → List Part
 renew_at now gone (Ok standing) h = Renews h.channel.number standing ∷ []
 renew_at now gone (Err why) h = fail now why gone h
 
+-- a payload goes to each other channel of the topic, and back to this one where it asked so
 abbrev pub broadcast_at : Now → Json → Member → List Part
 broadcast_at now payload h =
     map (broadcast_part payload) (filter (λ to. gets_broadcast h.channel to.channel) now.members)
 
+-- a channel tracks a tree, in the place of what it tracked
 abbrev pub track_at : Now → List ℕ → Json → Member → List Part
 track_at now gone tree h =
     let t = track_by now h.channel tree in
     Tracks t ∷ diffs now gone h.channel.topic (t ∷ []) (option_to_list (track_of now h.channel.number))
 
+-- a channel tracks nothing from here on
 abbrev pub untrack_at : Now → List ℕ → Member → List Part
 untrack_at now gone h =
     untrack_part h.channel.number (track_of now h.channel.number)
@@ -115,6 +119,7 @@ module _ (c : Catalog) (now : Now) (tables : List (List Row)) where
       Ok standing
 
   module _ (slot : ℕ) where
+    -- what an act does with the channel of a topic on this slot
     abbrev pub on : List ℕ → (Member → List Part) → List Part
     on topic act = at_channel act (channel_on now slot topic)
 

@@ -2,6 +2,7 @@
 
 ghost use Rattle.rt_catalog.specs.declared.catalog.Catalog.{Catalog as CatalogData};
 ghost use Rattle.rt_entry.specs.declared.input.Settings.{Settings as SettingsData};
+ghost use Rattle.rt_hub.specs.Registered.{RegistryFollows, SubscriptionsAreKept};
 ghost use Rattle.rt_hub.specs.Doing.{EndsAreDone, FramesAreDone, JournalsAreApart, TicksAreDone};
 
 /// Where a slot has one channel on a topic, as behind every journal, what a frame, a tick and an
@@ -11,4 +12,12 @@ pub fn effects_are_done()
     ensures frames { (c : CatalogData) (s : SettingsData) → FramesAreDone c s }
     ensures ticks { (c : CatalogData) (s : SettingsData) → TicksAreDone c s }
     ensures ends { (c : CatalogData) (s : SettingsData) → EndsAreDone c s }
+{}
+
+/// What a registry keeps of the members behind an input is what it kept before, changed by each
+/// part of the input in turn: a join adds a channel, a renewal changes its role and claims, a
+/// departure takes it away. Its subscriptions are those of the members.
+pub fn registry_follows()
+    ensures kept { SubscriptionsAreKept }
+    ensures follows { (c : CatalogData) (s : SettingsData) → RegistryFollows c s }
 {}

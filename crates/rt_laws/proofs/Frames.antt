@@ -42,13 +42,14 @@ use Rattle.rt_entry.specs.Doings.{join_parts, ask_parts, channel_parts, message_
 use Rattle.rt_entry.specs.Doings.{judged_parts, denied_ask}
 use Rattle.rt_entry.specs.Presence.{after_message, client_view}
 use Rattle.rt_entry.specs.After.{tracks_in, tracks_after}
+use Rattle.rt_entry.proofs.PlainParts.{no_departures}
 use Rattle.rt_laws.specs.Departures.{leave_for}
 use Rattle.rt_laws.specs.Views.{leaves_in, Fit}
 use Rattle.rt_laws.proofs.Metas.{reads_difference}
 use Rattle.rt_entry.proofs.Shapes.{AreApart, Below, IsMade, room, join_made}
 use Rattle.rt_entry.proofs.Unique.{RisingMembers}
 use Rattle.rt_entry.proofs.Tracked.{Apart}
-use Rattle.rt_laws.proofs.Hears.{hears, hears_append, hears_own, no_departures}
+use Rattle.rt_laws.proofs.Hears.{hears, hears_append, hears_own}
 use Rattle.rt_laws.proofs.Turns.{IsMute, turns_each, turns_close, turns_fail, mute_view, view_append, none_found}
 use Rattle.rt_laws.proofs.Turns.{one_found, of_one, leave_view, on_turn, no_track_parts, shown_still}
 use Rattle.rt_laws.proofs.Follows.{Turn, then_turn, mute_turn, end_turn, turn_holds, after_with}

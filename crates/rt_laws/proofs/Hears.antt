@@ -30,6 +30,7 @@ use Rattle.rt_entry.specs.Doings.{diffs, leave_diffs, depart, end_of, end_if_ope
 use Rattle.rt_entry.specs.Answers.{answer_of, answers_by}
 use Rattle.rt_entry.specs.Presence.{said_to}
 use Rattle.rt_laws.specs.Departures.{leave_for, heard}
+use Rattle.rt_entry.proofs.PlainParts.{none_leave}
 use Rattle.rt_entry.proofs.Shapes.{AreApart, eqb_same}
 use Rattle.rt_entry.proofs.Sound.{members_in, Shaped, members_apart}
 use Rattle.rt_entry.proofs.Unique.{RisingMembers, members_rising, same_member}
@@ -86,14 +87,6 @@ sole (x ∷ y ∷ more) h r a i =
     let lt = r.0.0 in
     let same : x.channel.number ≡ y.channel.number = ap (λ (m : Member). m.channel.number) (a.0 ∙ sym a.1.0) in
     absurd (omega arith)
-
-pub no_departures : (joins leaves : List Track) (ms : List Member) → departed_in (map (diff_to joins leaves) ms) ≡ []
-no_departures joins leaves [] = refl
-no_departures joins leaves (m ∷ ms) = no_departures joins leaves ms
-
-pub none_leave : (now : Now) (gone : List ℕ) (o : Option Track) → departed_in (leave_diffs now gone o) ≡ []
-none_leave now gone None = refl
-none_leave now gone (Some t) = no_departures [] (t ∷ []) (filter (watches gone t.topic) now.members)
 
 module _ (now : Now) (h : Member) (in_members : Among now.members h) (rises : RisingMembers now.members)
     (apart : AreApart now.members)

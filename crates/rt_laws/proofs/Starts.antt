@@ -30,7 +30,8 @@ use Rattle.rt_entry.specs.Doings.{tell, track_of, close, tell_if, has_bindings, 
 use Rattle.rt_entry.specs.Presence.{client_view}
 use Rattle.rt_entry.specs.After.{joins_of, tracks_in, tracks_after}
 use Rattle.rt_entry.proofs.Shapes.{AreApart, Below, eqb_same}
-use Rattle.rt_laws.proofs.Hears.{hears, hears_append, none_leave}
+use Rattle.rt_entry.proofs.PlainParts.{none_leave}
+use Rattle.rt_laws.proofs.Hears.{hears, hears_append}
 use Rattle.rt_laws.proofs.Turns.{IsMute, mute_departs, mute_tracks, none_track, view_append}
 use Rattle.rt_entry.proofs.Opens.{IsOpen}
 use Rattle.rt_entry.proofs.Keeping.{numbers_in, closing, none_joins, keeping}

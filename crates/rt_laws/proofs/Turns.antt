@@ -28,13 +28,14 @@ use Rattle.rt_entry.specs.Doings.{in_turn, channels_of, track_of, watches, diff_
 use Rattle.rt_entry.specs.Doings.{fail}
 use Rattle.rt_entry.specs.Presence.{client_view, after_message}
 use Rattle.rt_entry.specs.After.{tracks_in}
+use Rattle.rt_entry.proofs.PlainParts.{none_leave}
 use Rattle.rt_laws.specs.Departures.{leave_for}
 use Rattle.rt_laws.specs.Views.{leaves_in}
 use Rattle.rt_laws.proofs.Metas.{reads_difference}
 use Rattle.rt_entry.proofs.Shapes.{AreApart}
 use Rattle.rt_entry.proofs.Unique.{RisingMembers}
 use Rattle.rt_entry.proofs.Tracked.{Apart}
-use Rattle.rt_laws.proofs.Hears.{hears, hears_append, hears_leave, none_leave}
+use Rattle.rt_laws.proofs.Hears.{hears, hears_append, hears_leave}
 use Rattle.rt_presence.proofs.Stands.{number_flip}
 use Rattle.rt_entry.proofs.Opens.{has_turn}
 

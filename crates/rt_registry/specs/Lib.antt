@@ -1,3 +1,4 @@
 pub mod Asked
 pub mod Bindings
 pub mod Numbered
+pub mod Kept
