@@ -1,8 +1,8 @@
 -- No opening later than what is worked is cut, so a worker may keep a slot by itself.
-use Rattle.std.proofs.Common.{◌≡◌, ℕ, zero, suc, ◌+◌, ◌<◌, ◌≤◌, Bool, true, false, ◌||◌, List, [], ◌∷◌, ◌++◌, map, length, take, drop}
-use Rattle.std.proofs.Common.{refl, sym, ap, subst, ◌∙◌, arith, inl, inr}
-use Rattle.std.specs.Prelude.{◌==◌, nat_le}
-use Rattle.std.specs.List.{filter, list_any}
+use Rattle.std.proofs.Common.{◌≡◌, ℕ, zero, suc, ◌+◌, ◌≤◌, false, ◌||◌, List, [], ◌∷◌, ◌++◌, map, length, take, drop}
+use Rattle.std.proofs.Common.{refl, sym, ap, subst, ◌∙◌, arith}
+use Rattle.std.specs.Prelude.{◌==◌}
+use Rattle.std.specs.List.{filter}
 use Rattle.std.proofs.lemmas.Bool.Decides.{nat_tests}
 use Rattle.std.proofs.lemmas.List.{map-append, take-append-le}
 use Rattle.std.proofs.lemmas.List.Elements.{filter-append}
@@ -14,18 +14,18 @@ use Rattle.rt_entry.specs.declared.input.Settings.{Settings}
 use Rattle.rt_entry.specs.declared.input.Step.{Step}
 use Rattle.rt_entry.specs.declared.answer.Answer.{Answer}
 use Rattle.rt_entry.specs.declared.answer.Item.{Item}
-use Rattle.rt_entry.specs.Answers.{Mark, marks_of, lane_marks, answers_of_marks, items_for, spell, told}
+use Rattle.rt_entry.specs.Answers.{Mark, marks_of, lane_marks, answers_of_marks, items_for, spell}
 use Rattle.rt_entry.specs.Kept.{Kept, keep, kept_after, opening_behind}
 use Rattle.rt_entry.specs.Machine.{Cut, Slot, Lane, World, start, Placed, placed_from, placed, is_cut, is_uncut, with_slot}
 use Rattle.rt_entry.specs.Machine.{with_lane, with_given, with_cut, opening_after, lane_of, lane_in, worked_items, pending, run, is_of_opening}
 use Rattle.rt_entry.specs.Spelling.{version_after}
 use Rattle.rt_entry.proofs.Marks.{lane_more, items_more}
-use Rattle.rt_laws.specs.Working.{marks_in, worked_answers, worked_version, told_by_mark, after_work}
+use Rattle.rt_laws.specs.Working.{marks_in, worked_version, told_by_mark, after_work}
 use Rattle.rt_laws.specs.Keeping.{kept_in, WorkersKeep}
 use Rattle.rt_laws.proofs.Lists.{take_add}
-use Rattle.rt_laws.proofs.Good.{IsGood, run_good, start_good, good_keeps, with_all}
+use Rattle.rt_laws.proofs.Good.{IsGood, start_good, good_keeps, with_all}
 use Rattle.rt_laws.proofs.Stepping.{one_sent, one_worked, one_popped, Keeps, run_keeps}
-use Rattle.rt_laws.proofs.Kept.{item_of, uncut_items, NoneLater, kept_is, placed_append, behind_append, behind_more}
+use Rattle.rt_laws.proofs.Kept.{item_of, NoneLater, kept_is, placed_append, behind_append, behind_more}
 use Rattle.rt_laws.proofs.Kept.{drop_behind}
 use Rattle.rt_laws.proofs.Working.{work_spells, work_is}
 
@@ -121,15 +121,20 @@ module _ (c : Catalog) (s : Settings) where
   sound_keeps =
       let good = good_keeps c s in
       record {
-        inlet = λ w slot is h. (good.inlet w slot is h.0, slots_old w slot (record (w.slots slot) { inlet = is }) h.1
-        (h.1 slot));
+        inlet = λ w slot is h. (
+          good.inlet w slot is h.0,
+          slots_old w slot (record (w.slots slot) { inlet = is }) h.1
+              (h.1 slot),
+        );
         feed = λ w is h. (good.feed w is h.0, h.1);
         clock = λ w is h. (good.clock w is h.0, h.1);
         journal = λ w i h room. (good.journal w i h.0 room, journal_old w i h.0 h.1);
         sent = λ w l h e. (good.sent w l h.0 e, lanes_old w l (one_sent (w.lanes l)) h.1 (λ slot k. k));
         worked = λ w l h e. (good.worked w l h.0 e, lanes_old w l (one_worked (w.lanes l)) h.1 (more_old w l));
-        given = λ w slot p ps h e room. (good.given w slot p ps h.0 e room,
-        slots_old w slot (with_given (w.slots slot) p) h.1 (h.1 slot));
+        given = λ w slot p ps h e room. (
+          good.given w slot p ps h.0 e room,
+          slots_old w slot (with_given (w.slots slot) p) h.1 (h.1 slot),
+        );
         cut = λ w slot p ps h e full. (good.cut w slot p ps h.0 e full, cut_old w slot p ps h.1 e);
         popped = λ w slot h. (good.popped w slot h.0, slots_old w slot (one_popped (w.slots slot)) h.1 (h.1 slot));
       }
