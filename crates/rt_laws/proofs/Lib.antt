@@ -43,3 +43,4 @@ mod Within
 pub mod Working
 pub mod Kept
 pub mod WorkersKeep
+pub mod Pushing

@@ -143,12 +143,12 @@ module _ (c : Catalog) (s : Settings) where
   always_sound steps = run_keeps c s Sound sound_keeps steps start (start_good c s, λ slot m lt. refl)
 
   -- what a worker keeps, by the version, the slot's own state and the items that it has made
-  abbrev kept_of : Version → Slot → List Item → Kept
+  abbrev pub kept_of : Version → Slot → List Item → Kept
   kept_of v x items =
       keep v (is_cut x.cuts (opening_behind 0 items))
       (map item_of (filter (is_uncut x.cuts) (drop x.past (placed items))))
 
-  kept_is_of : (w : World) (slot : ℕ)
+  pub kept_is_of : (w : World) (slot : ℕ)
       → kept_in c s w slot ≡ kept_of (worked_version c s w slot) (w.slots slot) (worked_items c s w slot)
   unfolding pending
   kept_is_of w slot = refl
