@@ -44,3 +44,4 @@ pub mod Working
 pub mod Kept
 pub mod WorkersKeep
 pub mod Pushing
+pub mod OthersKeep

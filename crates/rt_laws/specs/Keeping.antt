@@ -1,12 +1,12 @@
 -- A worker's own state of a slot is what the machine says of it.
-use Rattle.std.specs.Prelude.{◌≡◌, ℕ, ◌==◌, true, false, List, ◌∷◌, map, drop}
+use Rattle.std.specs.Prelude.{◌≡◌, ◌≢◌, ℕ, ◌==◌, true, false, List, ◌∷◌, map, drop}
 use Rattle.rt_catalog.specs.declared.catalog.Catalog.{Catalog}
 use Rattle.rt_entry.specs.declared.input.Settings.{Settings}
 use Rattle.rt_entry.specs.declared.input.Step.{Step}
-use Rattle.rt_entry.specs.declared.input.Step.TheVariants.{Push}
+use Rattle.rt_entry.specs.declared.input.Step.TheVariants.{Work, Push}
 use Rattle.rt_entry.specs.Answers.{Mark}
 use Rattle.rt_entry.specs.Kept.{Kept, keep, kept_after, kept_pushed, kept_shut, opening_behind}
-use Rattle.rt_entry.specs.Machine.{World, Placed, lane_in, worked_items, is_cut, is_full_for, pending, start, step_of, run}
+use Rattle.rt_entry.specs.Machine.{World, Placed, lane_of, lane_in, worked_items, is_cut, is_full_for, pending, start, step_of, run}
 use Rattle.rt_laws.specs.Working.{marks_in, worked_version, told_by_mark, after_work}
 
 module _ (c : Catalog) (s : Settings) where
@@ -36,3 +36,8 @@ module _ (c : Catalog) (s : Settings) where
   abbrev pub PushesTake : Type 0
   PushesTake = (w : World) (slot : ℕ) (p : Placed) (ps : List Placed) → pending c s w slot ≡ p ∷ ps
       → IsPushed w slot p
+
+  -- after any steps no other step changes what is kept: only a push on the slot, and the work of its lane
+  abbrev pub OthersKeep : Type 0
+  OthersKeep = (steps : List Step) (x : Step) (slot : ℕ) → x ≢ Push slot → x ≢ Work (lane_of c s slot)
+      → kept_in (step_of c s (run c s steps start) x).1 slot ≡ kept_in (run c s steps start) slot

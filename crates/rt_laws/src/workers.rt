@@ -2,7 +2,7 @@
 
 ghost use Rattle.rt_catalog.specs.declared.catalog.Catalog.{Catalog as CatalogData};
 ghost use Rattle.rt_entry.specs.declared.input.Settings.{Settings as SettingsData};
-ghost use Rattle.rt_laws.specs.Keeping.{PushesTake, WorkersKeep};
+ghost use Rattle.rt_laws.specs.Keeping.{OthersKeep, PushesTake, WorkersKeep};
 ghost use Rattle.rt_laws.specs.Working.{WorkSpells, WorksAreAlone, WorksCommute};
 
 /// A worker that takes an entry makes of each slot of its lane what the entry tells the slot,
@@ -30,4 +30,10 @@ pub fn workers_keep()
 /// opening is cut from then on.
 pub fn pushes_take()
     ensures { (c : CatalogData) (s : SettingsData) → PushesTake c s }
+{}
+
+/// After any steps, no step but a push on the slot and the work of its lane changes what is kept of
+/// the slot.
+pub fn others_keep()
+    ensures { (c : CatalogData) (s : SettingsData) → OthersKeep c s }
 {}
