@@ -1,5 +1,5 @@
 -- No other step changes what a worker keeps of a slot.
-use Rattle.std.proofs.Common.{◌≡◌, ◌⊎◌, ℕ, ◌+◌, ◌-◌, ◌≤◌, Bool, true, false, List, [], ◌∷◌, ◌++◌, length, take, Option, Some}
+use Rattle.std.proofs.Common.{◌≡◌, ◌⊎◌, ℕ, ◌-◌, ◌≤◌, Bool, true, false, List, [], ◌∷◌, ◌++◌, length, take, Option, Some}
 use Rattle.std.proofs.Common.{None, refl, sym, ap, ◌∙◌, arith, inl, inr}
 use Rattle.std.specs.Prelude.{◌==◌, ◌≢◌, nat_lt, nat_le}
 use Rattle.std.proofs.lemmas.Bool.Decides.{eqb_tells}
@@ -15,13 +15,12 @@ use Rattle.rt_entry.specs.declared.answer.Item.{Item}
 use Rattle.rt_entry.specs.Answers.{Mark, marks_of, lane_marks, answers_of_marks, spell, told}
 use Rattle.rt_entry.specs.Spelling.{version_after}
 use Rattle.rt_entry.specs.Kept.{Kept}
-use Rattle.rt_entry.specs.Machine.{Cut, Slot, Lane, World, Placed, Outcome, done, empty, full, spent, rows_full, start}
-use Rattle.rt_entry.specs.Machine.{with_at, with_slot, with_lane, with_given, with_cut, outbox, slot_of, rows_left}
-use Rattle.rt_entry.specs.Machine.{take_first, put_inlet, put_feed, put_clock, arrive, arrive_at, feed_with, is_tick, send}
-use Rattle.rt_entry.specs.Machine.{work, is_full_for, push, pop, pending, step_of, run, lane_of, lane_in, worked_items}
+use Rattle.rt_entry.specs.Machine.{Slot, Lane, World, Placed, Outcome, done, empty, full, spent, rows_full, start}
+use Rattle.rt_entry.specs.Machine.{with_slot, with_lane, with_given, with_cut, outbox, slot_of, rows_left}
+use Rattle.rt_entry.specs.Machine.{take_first, put_inlet, put_feed, put_clock, arrive, arrive_at, is_tick, send}
+use Rattle.rt_entry.specs.Machine.{work, is_full_for, push, pop, pending, step_of, run, lane_of, lane_in}
 use Rattle.rt_entry.proofs.Marks.{lane_more}
-use Rattle.rt_laws.specs.Working.{worked_version}
-use Rattle.rt_laws.specs.Keeping.{kept_in, OthersKeep}
+use Rattle.rt_laws.specs.Keeping.{OthersKeep}
 use Rattle.rt_laws.proofs.Good.{IsGood, with_all, run_good, start_good}
 use Rattle.rt_laws.proofs.Stepping.{one_sent, one_worked, one_popped}
 use Rattle.rt_laws.proofs.WorkersKeep.{kept_of, kept_is_of}
