@@ -6,3 +6,4 @@ mod Idle
 mod Once
 mod Same
 mod Taken
+mod RoundsAtOnce

@@ -1,2 +1,3 @@
 pub mod Plain
+pub mod Rounds
 pub mod Runs

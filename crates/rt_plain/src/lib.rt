@@ -5,5 +5,5 @@
 mod runs;
 mod schedule;
 
-pub use runs::{runs_are_one, scripts_run};
+pub use runs::{rounds_are_at_once, runs_are_one, scripts_run};
 pub use schedule::{due_is_free, plain_ends, plain_gives_all, workers_are_free, workers_end_alike};
