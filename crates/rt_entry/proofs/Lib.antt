@@ -13,6 +13,7 @@ pub mod Marks
 pub mod Members
 pub mod Once
 pub mod Opens
+pub mod Ordered
 pub mod PlainParts
 pub mod Present
 pub mod Registered
