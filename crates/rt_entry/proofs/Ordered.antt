@@ -1,23 +1,19 @@
 -- Tracks stand in the order of their references, each under its channel's key.
-use Rattle.std.proofs.Common.{◌≡◌, ◌⊎◌, ℕ, suc, ◌+◌, ◌<◌, ◌≤◌, Bool, true, false, ◌&&◌, not, cond, List, [], ◌∷◌, ◌++◌}
-use Rattle.std.proofs.Common.{map, length, Option, Some, None, refl, sym, ap, subst, ◌∙◌, arith, inl, inr, append-nil}
-use Rattle.std.specs.Prelude.{⊤, ◌==◌, Contains}
+use Rattle.std.proofs.Common.{◌≡◌, ◌⊎◌, ℕ, suc, ◌<◌, ◌≤◌, Bool, true, false, cond, List, [], ◌∷◌, ◌++◌}
+use Rattle.std.proofs.Common.{map, length, refl, sym, ap, subst, ◌∙◌, arith, inl, inr, append-nil}
 use Rattle.std.specs.List.{filter}
 use Rattle.std.proofs.lemmas.List.{map-append}
-use Rattle.rt_value.specs.declared.row.Row.{Row}
 use Rattle.rt_value.proofs.Among.{Among, from_contains, to_contains, among_either, among_filter, among_map}
-use Rattle.rt_value.proofs.Plain.{AllOf, all_among}
-use Rattle.rt_json.specs.declared.tree.Json.{Json}
+use Rattle.rt_value.proofs.Plain.{all_among}
 use Rattle.rt_catalog.specs.declared.catalog.Catalog.{Catalog}
 use Rattle.rt_entry.specs.declared.input.Input.{Input}
 use Rattle.rt_entry.specs.declared.input.Settings.{Settings}
 use Rattle.rt_entry.specs.declared.story.Channel.{Channel}
 use Rattle.rt_entry.specs.declared.story.Member.{Member}
 use Rattle.rt_entry.specs.declared.story.Track.{Track}
-use Rattle.rt_entry.specs.declared.story.Part.{Part}
 use Rattle.rt_entry.specs.Story.{Now, now_of, tables_left, standing_tracks, members_at, member_in, present_at, joined, all_tracks}
-use Rattle.rt_entry.specs.Doings.{story, track_by}
-use Rattle.rt_entry.specs.After.{found_by, done_by, joins_of, remains, renewed, new_member, members_after, tracks_in}
+use Rattle.rt_entry.specs.Doings.{story}
+use Rattle.rt_entry.specs.After.{found_by, done_by, joins_of, remains, renewed, new_member, tracks_in}
 use Rattle.rt_entry.specs.After.{outlasts, tracks_after, after}
 use Rattle.rt_entry.specs.Ids.{RiseWithin}
 use Rattle.rt_entry.specs.Members.{members_of_journal}
@@ -143,8 +139,7 @@ module _ (c : Catalog) (s : Settings) where
       elim (among_either (map (renewed parts) old) (map new_member (joins_of parts)) h
       (subst P (members_next c s journal i) here)) [
         | inl a ↦
-            let made = among_map (renewed parts) old h a in
-            (
+            let made = among_map (renewed parts) old h a in (
               made.0,
               (among_filter (remains parts) ms made.0 made.1).0,
               ap (λ (m : Member). m.channel) (sym made.2),

@@ -15,5 +15,6 @@ pub use counts::{
 pub use lanes::{entries_give, lanes_fan_out, lanes_grow, marks_stay, stops_are_marked};
 pub use polls::{bounds_are_of_tables, reports_are_audits, tables_are_edited};
 pub use spelling::spelling_goes_on;
-pub use stories::{ids_rise, members_are_apart, slots_are_open, story_grows, tracks_are_apart};
-pub use stories::tracks_are_ordered;
+pub use stories::{
+    ids_rise, members_are_apart, slots_are_open, story_grows, tracks_are_apart, tracks_are_ordered,
+};
