@@ -1,3 +1,4 @@
+pub mod BoundKinds
 pub mod Bounds
 pub mod Counted
 pub mod Crossing
