@@ -100,7 +100,7 @@ members_apart st h =
 
 -- the ids of subscriptions
 
-rise_lower : (low lower high : ℕ) (ns : List ℕ) → lower ≤ low → RiseWithin low ns high → RiseWithin lower ns high
+pub rise_lower : (low lower high : ℕ) (ns : List ℕ) → lower ≤ low → RiseWithin low ns high → RiseWithin lower ns high
 rise_lower low lower high [] le r = omega arith
 rise_lower low lower high (n ∷ ns) le r = let here = r.0 in (omega arith, r.1)
 

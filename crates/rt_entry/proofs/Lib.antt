@@ -1,3 +1,4 @@
+pub mod BoundKinds
 pub mod Bounds
 pub mod Counted
 pub mod Crossing
@@ -13,6 +14,7 @@ pub mod Marks
 pub mod Members
 pub mod Once
 pub mod Opens
+pub mod Ordered
 pub mod PlainParts
 pub mod Present
 pub mod Registered

@@ -36,7 +36,7 @@ use Rattle.rt_entry.specs.declared.story.Track.{Track}
 use Rattle.rt_entry.specs.declared.story.Part.{Part}
 use Rattle.rt_entry.specs.declared.story.Part.TheVariants.{Opens, Ends, Tells, Joins, Renews, Tracks, Untracks, Departs}
 use Rattle.rt_entry.specs.declared.entry.ChannelView.{ChannelView}
-use Rattle.rt_entry.specs.Story.{Now, departed_in, renewed_by}
+use Rattle.rt_entry.specs.Story.{Now, departed_in, renewed_by, standing_tracks, is_last}
 use Rattle.rt_entry.specs.Messages.{subscribed_message, presence_state}
 use Rattle.rt_phx.specs.Checked.{Checked}
 use Rattle.rt_entry.specs.Joining.{channel_of_join, renewal_of}
@@ -49,7 +49,7 @@ use Rattle.rt_entry.specs.Doings.{stop_parts, subscriptions, view_of, opening_of
 use Rattle.rt_entry.specs.Doings.{ask_parts, channel_parts, message_parts, frame_parts, gets, change_parts}
 use Rattle.rt_entry.specs.Doings.{change_parts_to, change_parts_to_all, poll_parts, doings, posting_parts, post_parts}
 use Rattle.rt_entry.specs.Doings.{may_post, permitted_parts, judged_parts, denied_ask}
-use Rattle.rt_entry.specs.After.{joins_of}
+use Rattle.rt_entry.specs.After.{joins_of, tracks_in}
 
 module _ (c : Catalog) (s : Settings) (now : Now) (tables : List (List Row)) where
   -- a message on a slot joined the channel
@@ -68,13 +68,20 @@ module _ (c : Catalog) (s : Settings) (now : Now) (tables : List (List Row)) whe
     pub token : Json
     pub made : renewal_of c tables s now opening member.channel token ≡ Ok standing
 
+  -- a member tracked it
+  pub record IsTrack (t : Track) : Type 0 where
+    pub member : Member
+    pub here : Among now.members member
+    pub tree : Json
+    pub is : t ≡ track_by now member.channel tree
+
   abbrev pub Sourced : Part → Type 0
   Sourced (Opens slot o) = ⊤
   Sourced (Ends slot name) = ⊤
   Sourced (Tells slot m) = ⊤
   Sourced (Joins ch) = IsJoin ch
   Sourced (Renews n x) = IsRenewal n x
-  Sourced (Tracks t) = ⊤
+  Sourced (Tracks t) = IsTrack t
   Sourced (Untracks n) = ⊤
   Sourced (Departs n) = ⊤
 
@@ -202,7 +209,7 @@ module _ (c : Catalog) (s : Settings) (now : Now) (tables : List (List Row)) whe
   of_ask o h m (track tree) here = (
     tt,
     (
-      tt,
+      record { member = h; here = here; tree = tree; is = refl },
       of_diffs [] h.channel.topic (track_by now h.channel tree ∷ [])
           (option_to_list (track_of now h.channel.number)),
     ),
@@ -320,3 +327,17 @@ module _ (c : Catalog) (s : Settings) (now : Now) (tables : List (List Row)) whe
   renewals_sourced k (Tracks t ∷ ps) a = renewals_sourced k ps a.1
   renewals_sourced k (Untracks n ∷ ps) a = renewals_sourced k ps a.1
   renewals_sourced k (Departs n ∷ ps) a = renewals_sourced k ps a.1
+
+  pub tracks_sourced : (ps : List Part) → AllOf Sourced ps → AllOf IsTrack (standing_tracks (tracks_in ps))
+  tracks_sourced [] a = tt
+  tracks_sourced (Opens n o ∷ ps) a = tracks_sourced ps a.1
+  tracks_sourced (Ends n name ∷ ps) a = tracks_sourced ps a.1
+  tracks_sourced (Tells n m ∷ ps) a = tracks_sourced ps a.1
+  tracks_sourced (Joins ch ∷ ps) a = tracks_sourced ps a.1
+  tracks_sourced (Renews n x ∷ ps) a = tracks_sourced ps a.1
+  tracks_sourced (Tracks t ∷ ps) a =
+      let rest = standing_tracks (tracks_in ps) in
+      elim (is_last t.channel (tracks_in ps)) as (λ b. AllOf IsTrack (elim b [ true ↦ t ∷ rest | false ↦ rest ]))
+      [ true ↦ (a.0, tracks_sourced ps a.1) | false ↦ tracks_sourced ps a.1 ]
+  tracks_sourced (Untracks n ∷ ps) a = tracks_sourced ps a.1
+  tracks_sourced (Departs n ∷ ps) a = tracks_sourced ps a.1

@@ -1,5 +1,5 @@
 -- What a lane's worker keeps of a slot, and how answers change it.
-use Rattle.std.specs.Prelude.{ℕ, ◌+◌, Bool, true, false, List, [], ◌∷◌, ◌++◌}
+use Rattle.std.specs.Prelude.{ℕ, Bool, true, false, List, [], ◌∷◌, ◌++◌, drop}
 use Rattle.rt_phx.specs.declared.message.Version.{Version}
 use Rattle.rt_phx.specs.Frame.{spelled}
 use Rattle.rt_entry.specs.declared.answer.Answer.{Answer}
@@ -38,3 +38,17 @@ kept_after k (x ∷ xs) = kept_after (kept_by k x) xs
 abbrev pub opening_behind : ℕ → List Item → ℕ
 opening_behind opening [] = opening
 opening_behind opening (x ∷ xs) = opening_behind (opening_after x opening) xs
+
+-- What a push makes of what a worker keeps: the first item goes into the outbox.
+abbrev pub kept_pushed : Kept → Kept
+kept_pushed k = keep k.version k.is_cut (drop 1 k.items)
+
+-- Where the outbox is full for it, nothing more of its opening is pending: what is behind the opening's terminator is
+-- left, and without one the opening that the next item is of is cut.
+abbrev pub shut : Version → Bool → List Item → Kept
+shut v b [] = keep v true []
+shut v b (Message m ∷ items) = shut v b items
+shut v b (End name ∷ items) = keep v b items
+
+abbrev pub kept_shut : Kept → Kept
+kept_shut k = shut k.version k.is_cut k.items

@@ -16,6 +16,7 @@ pub mod Lanes
 pub mod Machine
 pub mod Members
 pub mod Messages
+pub mod Ordered
 pub mod Presence
 pub mod Readable
 pub mod Reports

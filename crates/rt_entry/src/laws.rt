@@ -13,6 +13,8 @@ pub use counts::{
     joins_are_next, journals_are_counted, meanings_agree, members_are_registered, members_rise,
 };
 pub use lanes::{entries_give, lanes_fan_out, lanes_grow, marks_stay, stops_are_marked};
-pub use polls::{bounds_are_of_tables, reports_are_audits, tables_are_edited};
+pub use polls::{bounds_are_of_kinds, bounds_are_of_tables, reports_are_audits, tables_are_edited};
 pub use spelling::spelling_goes_on;
-pub use stories::{ids_rise, members_are_apart, slots_are_open, story_grows, tracks_are_apart};
+pub use stories::{
+    ids_rise, members_are_apart, slots_are_open, story_grows, tracks_are_apart, tracks_are_ordered,
+};

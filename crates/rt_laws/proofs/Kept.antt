@@ -10,7 +10,7 @@ use Rattle.rt_entry.specs.declared.answer.Item.{Item}
 use Rattle.rt_entry.specs.declared.answer.Item.TheVariants.{Message, End}
 use Rattle.rt_entry.specs.Answers.{spell}
 use Rattle.rt_entry.specs.Spelling.{version_after}
-use Rattle.rt_entry.specs.Kept.{Kept, keep, kept_after, item_more, opening_behind}
+use Rattle.rt_entry.specs.Kept.{keep, kept_after, item_more, opening_behind}
 use Rattle.rt_entry.specs.Machine.{Cut, Placed, placed_from, opening_after, is_cut, is_uncut}
 
 abbrev pub item_of : Placed → Item

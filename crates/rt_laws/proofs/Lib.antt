@@ -43,3 +43,5 @@ mod Within
 pub mod Working
 pub mod Kept
 pub mod WorkersKeep
+pub mod Pushing
+pub mod OthersKeep

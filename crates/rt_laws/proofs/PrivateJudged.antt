@@ -1,7 +1,7 @@
 -- A join that is accepted and a renewal were judged.
 use Rattle.std.proofs.Common.{◌≡◌, ℕ, Bool, true, List, map, Option, Some, None, Ok, Err, refl, ap}
 use Rattle.std.proofs.Common.{subst}
-use Rattle.std.specs.Prelude.{⊤, Result, codes, nat_lt, is_none, IfOk}
+use Rattle.std.specs.Prelude.{Result, codes, nat_lt, is_none, IfOk}
 use Rattle.std.proofs.lemmas.Bool.{and_parts}
 use Rattle.rt_value.specs.declared.claims.Claims.{Claims}
 use Rattle.rt_value.specs.declared.row.Row.{Row}

@@ -1,8 +1,8 @@
 -- No opening later than what is worked is cut, so a worker may keep a slot by itself.
-use Rattle.std.proofs.Common.{◌≡◌, ℕ, zero, suc, ◌+◌, ◌<◌, ◌≤◌, Bool, true, false, ◌||◌, List, [], ◌∷◌, ◌++◌, map, length, take, drop}
-use Rattle.std.proofs.Common.{refl, sym, ap, subst, ◌∙◌, arith, inl, inr}
-use Rattle.std.specs.Prelude.{◌==◌, nat_le}
-use Rattle.std.specs.List.{filter, list_any}
+use Rattle.std.proofs.Common.{◌≡◌, ℕ, zero, suc, ◌+◌, ◌≤◌, false, ◌||◌, List, [], ◌∷◌, ◌++◌, map, length, take, drop}
+use Rattle.std.proofs.Common.{refl, sym, ap, subst, ◌∙◌, arith}
+use Rattle.std.specs.Prelude.{◌==◌}
+use Rattle.std.specs.List.{filter}
 use Rattle.std.proofs.lemmas.Bool.Decides.{nat_tests}
 use Rattle.std.proofs.lemmas.List.{map-append, take-append-le}
 use Rattle.std.proofs.lemmas.List.Elements.{filter-append}
@@ -14,18 +14,18 @@ use Rattle.rt_entry.specs.declared.input.Settings.{Settings}
 use Rattle.rt_entry.specs.declared.input.Step.{Step}
 use Rattle.rt_entry.specs.declared.answer.Answer.{Answer}
 use Rattle.rt_entry.specs.declared.answer.Item.{Item}
-use Rattle.rt_entry.specs.Answers.{Mark, marks_of, lane_marks, answers_of_marks, items_for, spell, told}
+use Rattle.rt_entry.specs.Answers.{Mark, marks_of, lane_marks, answers_of_marks, items_for, spell}
 use Rattle.rt_entry.specs.Kept.{Kept, keep, kept_after, opening_behind}
 use Rattle.rt_entry.specs.Machine.{Cut, Slot, Lane, World, start, Placed, placed_from, placed, is_cut, is_uncut, with_slot}
 use Rattle.rt_entry.specs.Machine.{with_lane, with_given, with_cut, opening_after, lane_of, lane_in, worked_items, pending, run, is_of_opening}
 use Rattle.rt_entry.specs.Spelling.{version_after}
 use Rattle.rt_entry.proofs.Marks.{lane_more, items_more}
-use Rattle.rt_laws.specs.Working.{marks_in, worked_answers, worked_version, told_by_mark, after_work}
+use Rattle.rt_laws.specs.Working.{marks_in, worked_version, told_by_mark, after_work}
 use Rattle.rt_laws.specs.Keeping.{kept_in, WorkersKeep}
 use Rattle.rt_laws.proofs.Lists.{take_add}
-use Rattle.rt_laws.proofs.Good.{IsGood, run_good, start_good, good_keeps, with_all}
+use Rattle.rt_laws.proofs.Good.{IsGood, start_good, good_keeps, with_all}
 use Rattle.rt_laws.proofs.Stepping.{one_sent, one_worked, one_popped, Keeps, run_keeps}
-use Rattle.rt_laws.proofs.Kept.{item_of, uncut_items, NoneLater, kept_is, placed_append, behind_append, behind_more}
+use Rattle.rt_laws.proofs.Kept.{item_of, NoneLater, kept_is, placed_append, behind_append, behind_more}
 use Rattle.rt_laws.proofs.Kept.{drop_behind}
 use Rattle.rt_laws.proofs.Working.{work_spells, work_is}
 
@@ -143,12 +143,12 @@ module _ (c : Catalog) (s : Settings) where
   always_sound steps = run_keeps c s Sound sound_keeps steps start (start_good c s, λ slot m lt. refl)
 
   -- what a worker keeps, by the version, the slot's own state and the items that it has made
-  abbrev kept_of : Version → Slot → List Item → Kept
+  abbrev pub kept_of : Version → Slot → List Item → Kept
   kept_of v x items =
       keep v (is_cut x.cuts (opening_behind 0 items))
       (map item_of (filter (is_uncut x.cuts) (drop x.past (placed items))))
 
-  kept_is_of : (w : World) (slot : ℕ)
+  pub kept_is_of : (w : World) (slot : ℕ)
       → kept_in c s w slot ≡ kept_of (worked_version c s w slot) (w.slots slot) (worked_items c s w slot)
   unfolding pending
   kept_is_of w slot = refl

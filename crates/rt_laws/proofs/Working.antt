@@ -7,16 +7,14 @@ use Rattle.rt_phx.specs.declared.message.Version.TheVariants.{V1}
 use Rattle.rt_catalog.specs.declared.catalog.Catalog.{Catalog}
 use Rattle.rt_entry.specs.declared.input.Settings.{Settings}
 use Rattle.rt_entry.specs.declared.input.Step.TheVariants.{Work}
-use Rattle.rt_entry.specs.declared.answer.Answer.{Answer}
-use Rattle.rt_entry.specs.Answers.{Mark, told, spell, lane_marks, answers_of_marks, entry_of}
-use Rattle.rt_entry.specs.Fan.{given_by}
+use Rattle.rt_entry.specs.Answers.{Mark, told, spell, answers_of_marks}
 use Rattle.rt_entry.specs.Spelling.{version_after}
-use Rattle.rt_entry.specs.Machine.{Lane, World, Outcome, done, empty, lane_of, lane_in, with_lane, work, step_of, run}
+use Rattle.rt_entry.specs.Machine.{Lane, World, Outcome, done, empty, lane_of, lane_in, with_lane, step_of, run}
 use Rattle.rt_entry.proofs.Fans.{entries_give}
 use Rattle.rt_entry.proofs.Marks.{told_append, marks_append}
 use Rattle.rt_entry.proofs.Spelling.{spell_append, version_append}
 use Rattle.rt_entry.proofs.Shapes.{eqb_same}
-use Rattle.rt_laws.specs.Working.{marks_in, worked_answers, told_by_mark, after_work, IsWorked, WorkSpells, WorksCommute}
+use Rattle.rt_laws.specs.Working.{marks_in, worked_answers, told_by_mark, after_work, WorkSpells, WorksCommute}
 use Rattle.rt_laws.specs.Working.{WorksAreAlone}
 use Rattle.rt_laws.proofs.Lists.{take_step}
 use Rattle.rt_laws.proofs.Stepping.{one_worked}

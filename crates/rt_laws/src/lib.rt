@@ -24,4 +24,4 @@ pub use private::{
 pub use serving::{serves_all, uncut_is_due};
 pub use steps::{cuts_are_own, others_are_untouched, push_keeps_the_rest};
 pub use stories::openings_are_whole;
-pub use workers::{work_spells, workers_keep, works_are_apart};
+pub use workers::{others_keep, pushes_take, work_spells, workers_keep, works_are_apart};

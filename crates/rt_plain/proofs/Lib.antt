@@ -9,3 +9,4 @@ mod Once
 mod Same
 mod SoundStates
 mod Taken
+mod RoundsAtOnce

@@ -1,4 +1,5 @@
 pub mod AtOnce
 pub mod Plain
+pub mod Rounds
 pub mod Runs
 pub mod Scripts

@@ -1,7 +1,7 @@
 //! Laws of polls: the tables that they leave, and what is reported of them.
 
 ghost use Rattle.rt_catalog.specs.declared.catalog.Catalog.{Catalog as CatalogData};
-ghost use Rattle.rt_entry.specs.Bounds.{BoundsAreOfTables};
+ghost use Rattle.rt_entry.specs.Bounds.{BoundsAreOfKinds, BoundsAreOfTables};
 ghost use Rattle.rt_entry.specs.declared.input.Settings.{Settings as SettingsData};
 ghost use Rattle.rt_entry.specs.Edited.{RowsAreOfTables, TablesAreEdited, TablesAreTheCatalogues};
 ghost use Rattle.rt_entry.specs.Reports.{ReportsAreAudits};
@@ -24,4 +24,9 @@ pub fn reports_are_audits()
 /// none, for each of its columns.
 pub fn bounds_are_of_tables()
     ensures { (c : CatalogData) → BoundsAreOfTables c }
+{}
+
+/// Each cell of such a change that is given is null or of its column's kind.
+pub fn bounds_are_of_kinds()
+    ensures { (c : CatalogData) → BoundsAreOfKinds c }
 {}

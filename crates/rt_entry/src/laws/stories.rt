@@ -5,6 +5,7 @@ ghost use Rattle.rt_entry.specs.declared.input.Settings.{Settings as SettingsDat
 ghost use Rattle.rt_entry.specs.After.{StoryGrows, TablesGrow};
 ghost use Rattle.rt_entry.specs.Ids.{IdsRise, ToldIdsRise};
 ghost use Rattle.rt_entry.specs.Members.{NumbersAreApart, SlotsAreOpen, TopicsAreApart};
+ghost use Rattle.rt_entry.specs.Ordered.{KeysAreTheChannels, ReferencesRise};
 ghost use Rattle.rt_entry.specs.Tracks.{ChannelsTrackOnce, ReferencesAreApart, TracksAreMembers};
 
 /// What an input finds comes from what the input before it found and did: openings, members with
@@ -39,4 +40,11 @@ pub fn slots_are_open()
 pub fn ids_rise()
     ensures standing { (c : CatalogData) (s : SettingsData) → IdsRise c s }
     ensures told { (c : CatalogData) (s : SettingsData) → ToldIdsRise c s }
+{}
+
+/// What is present stands in the order of the inputs that tracked it, each track under its channel's
+/// key.
+pub fn tracks_are_ordered()
+    ensures references { (c : CatalogData) (s : SettingsData) → ReferencesRise c s }
+    ensures keys { (c : CatalogData) (s : SettingsData) → KeysAreTheChannels c s }
 {}
