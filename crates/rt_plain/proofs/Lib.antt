@@ -1,5 +1,5 @@
-mod AllowedSteps
 mod Alike
+mod AllowedSteps
 mod Calm
 mod Falling
 mod Free
@@ -9,4 +9,3 @@ mod Once
 mod Same
 mod SoundStates
 mod Taken
-mod RoundsAtOnce

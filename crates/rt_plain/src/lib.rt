@@ -12,5 +12,3 @@ pub use schedule::{
     workers_end_alike,
 };
 pub use scripts::scripts_are_allowed;
-pub use runs::{rounds_are_at_once, runs_are_one, scripts_run};
-pub use schedule::{due_is_free, plain_ends, plain_gives_all, workers_are_free, workers_end_alike};
