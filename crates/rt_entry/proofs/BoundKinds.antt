@@ -19,11 +19,13 @@ use Rattle.rt_entry.specs.Bounds.{is_of_kind, CellsAreOfKinds}
 abbrev Fits : Kind → Value → Type 0
 Fits k v = (v ≡ value.Null) ⊎ (is_of_kind k v ≡ true)
 
-made : {A : Type 0} (k : Kind) (f : A → Value) (o : Option A) → ((x : A) → Fits k (f x)) → Maybe (Fits k) (option_map f o)
+made : {A : Type 0} (k : Kind) (f : A → Value) (o : Option A) → ((x : A) → Fits k (f x))
+    → Maybe (Fits k) (option_map f o)
 made k f None h = tt
 made k f (Some x) h = h x
 
-number_fits : (k : Kind) (bits : ℕ) (text : List ℕ) → ((x : ℤ) → Fits k (value.Int x)) → Maybe (Fits k) (number_of bits text)
+number_fits : (k : Kind) (bits : ℕ) (text : List ℕ) → ((x : ℤ) → Fits k (value.Int x))
+    → Maybe (Fits k) (number_of bits text)
 number_fits k bits text h = by (not (begins_with_plus text))
   where
     by : (b : Bool) → Maybe (Fits k) (some_if b text >>= λ digits. option_map value.Int (int_in_text bits digits))

@@ -15,7 +15,8 @@ use Rattle.rt_change.specs.declared.change.Bound.TheVariants as bound
 use Rattle.rt_change.specs.declared.fault.ChangeFault.{ChangeFault}
 use Rattle.rt_change.specs.declared.fault.ChangeFault.TheVariants.{KeyDiffers}
 use Rattle.rt_change.specs.Binding.{◌>>◌, or_fault, fields_fit, cell_for, cells_for, face_for, keys_differ, key_given}
-use Rattle.rt_change.specs.Binding.{new_fields, old_fields, used, change_with, bound_to, bound_at, verb_of, change_of, IsBound}
+use Rattle.rt_change.specs.Binding.{new_fields, old_fields, used, change_with, bound_to, bound_at, verb_of, change_of}
+use Rattle.rt_change.specs.Binding.{IsBound}
 use Rattle.rt_entry.specs.Bounds.{IsOfTable, IsOfKinds, BoundsAreOfTables, BoundsAreOfKinds}
 use Rattle.rt_entry.proofs.BoundKinds.{all_cells}
 use Rattle.rt_entry.proofs.Registered.{Gives, given_of}

@@ -254,7 +254,8 @@ module _ (c : Catalog) (s : Settings) where
       let long : length (i ∷ journal) ≡ length journal + 1 = omega arith in
       omega arith
 
-  channels_are_few : (journal : List Input) (slot : ℕ) → length (channels_of (found_by c s journal) slot) ≤ channel_limit
+  channels_are_few : (journal : List Input) (slot : ℕ)
+      → length (channels_of (found_by c s journal) slot) ≤ channel_limit
   channels_are_few [] slot = none (found_by c s []).members (none_yet c s)
     where
       none : (hs : List Member) → ((h : Member) → Among hs h → ⊥) → length (filter (is_of_slot slot) hs) ≤ channel_limit

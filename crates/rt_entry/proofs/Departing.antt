@@ -1,5 +1,6 @@
 -- What departures leave.
-use Rattle.std.proofs.Common.{◌≡◌, ℕ, Bool, true, false, ◌&&◌, ◌||◌, not, cond, List, [], ◌∷◌, ◌++◌, map, Option, Some, None}
+use Rattle.std.proofs.Common.{◌≡◌, ℕ, Bool, true, false, ◌&&◌, ◌||◌, not, cond, List, [], ◌∷◌, ◌++◌, map, Option}
+use Rattle.std.proofs.Common.{Some, None}
 use Rattle.std.proofs.Common.{refl, sym, ap, ◌∙◌, inl, inr}
 use Rattle.std.specs.Prelude.{◌==◌, find}
 use Rattle.std.specs.List.{filter}
@@ -91,7 +92,8 @@ module _ (now : Now) (gone : List ℕ) where
       ∙ ap (leave_diffs (left_by now gone) (n ∷ [])) (sym (leaves_tracks now gone n stays)))
 
   closes_same : (h : Member) → has h.channel.number gone ≡ false → close now gone h ≡ close (left_by now gone) [] h
-  closes_same h stays = ap (λ (ps : List Part). tell h.channel.slot (close_message h.channel) ++ ps) (departs_same h stays)
+  closes_same h stays = ap (λ (ps : List Part). tell h.channel.slot (close_message h.channel) ++ ps)
+      (departs_same h stays)
 
   pub parts_of_left : PartsAreOfTheLeft now gone
   parts_of_left =

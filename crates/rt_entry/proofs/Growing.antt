@@ -31,7 +31,8 @@ of_one : {A B : Type 0} (p : B → Bool) (f : A → B) (b : Bool) → ((x : A) �
 of_one p f true e [] = refl
 of_one p f false e [] = refl
 of_one p f true e (x ∷ xs) =
-    ap (λ t. cond t (f x ∷ filter p (map f xs)) (filter p (map f xs))) (e x) ∙ ap (λ ys. f x ∷ ys) (of_one p f true e xs)
+    ap (λ t. cond t (f x ∷ filter p (map f xs)) (filter p (map f xs))) (e x)
+    ∙ ap (λ ys. f x ∷ ys) (of_one p f true e xs)
 of_one p f false e (x ∷ xs) =
     ap (λ t. cond t (f x ∷ filter p (map f xs)) (filter p (map f xs))) (e x) ∙ of_one p f false e xs
 

@@ -135,7 +135,8 @@ module _ (c : Catalog) (s : Settings) (now : Now) (tables : List (List Row)) whe
       given_of (IsMadeWell c j.slot j.message.topic n) (channel_of_join c tables s now j.slot j.opening n j.message) ch
       (join_well j.slot j.opening n j.message) j.made
 
-  renewed_well : (number : ℕ) (x : Standing) (r : IsRenewal c s now tables number x) → IsRenewedWell c r.member.channel x
+  renewed_well : (number : ℕ) (x : Standing) (r : IsRenewal c s now tables number x)
+      → IsRenewedWell c r.member.channel x
   renewed_well number x r =
       given_of (IsRenewedWell c r.member.channel) (renewal_of c tables s now r.opening r.member.channel r.token) x
       (renewal_well r.opening r.member.channel r.token) r.made

@@ -11,7 +11,8 @@ use Rattle.rt_entry.specs.declared.input.Settings.{Settings}
 use Rattle.rt_entry.specs.declared.story.Channel.{Channel}
 use Rattle.rt_entry.specs.declared.story.Member.{Member}
 use Rattle.rt_entry.specs.declared.story.Track.{Track}
-use Rattle.rt_entry.specs.Story.{Now, now_of, tables_left, standing_tracks, members_at, member_in, present_at, joined, all_tracks}
+use Rattle.rt_entry.specs.Story.{Now, now_of, tables_left, standing_tracks, members_at, member_in, present_at, joined}
+use Rattle.rt_entry.specs.Story.{all_tracks}
 use Rattle.rt_entry.specs.Doings.{story}
 use Rattle.rt_entry.specs.After.{found_by, done_by, joins_of, remains, renewed, new_member, tracks_in}
 use Rattle.rt_entry.specs.After.{outlasts, tracks_after, after}
@@ -37,9 +38,11 @@ rise_kept p low high [] r = r
 rise_kept p low high (t ∷ ts) r =
     let here = r.0 in
     let rest = rise_kept p (suc t.reference) high ts r.1 in
-    elim (p t) as (λ b. RiseWithin low (map (λ (u : Track). u.reference) (cond b (t ∷ filter p ts) (filter p ts))) high) [
+    elim (p t) as (λ b. RiseWithin low (map (λ (u : Track). u.reference) (cond b (t ∷ filter p ts)
+    (filter p ts))) high) [
       | true ↦ (r.0, rest)
-      | false ↦ rise_lower (suc t.reference) low high (map (λ (u : Track). u.reference) (filter p ts)) (omega arith) rest
+      | false ↦ rise_lower (suc t.reference) low high (map (λ (u : Track). u.reference) (filter p ts))
+          (omega arith) rest
     ]
 
 rise_higher : (low high higher : ℕ) (ns : List ℕ) → high ≤ higher → RiseWithin low ns high → RiseWithin low ns higher
@@ -75,14 +78,16 @@ module _ (c : Catalog) (s : Settings) where
   rise_next journal i r = by (one_track journal i)
     where
       by : (standing_tracks (tracks_in (done_by c s journal i)) ≡ [])
-          ⊎ ((t : Track) × (standing_tracks (tracks_in (done_by c s journal i)) ≡ t ∷ []) × (t.reference ≡ length journal))
+          ⊎ ((t : Track) × (standing_tracks (tracks_in (done_by c s journal i)) ≡ t ∷ [])
+          × (t.reference ≡ length journal))
           → RiseWithin 0 (map (λ (t : Track). t.reference) (tracks_after (tracks_of_journal c s journal)
           (done_by c s journal i))) (length (i ∷ journal))
       by (inl e) =
           let kept = filter (outlasts (done_by c s journal i)) (tracks_of_journal c s journal) in
           let P : List Track → Type 0 =
           λ ts. RiseWithin 0 (map (λ (t : Track). t.reference) (kept ++ ts)) (length (i ∷ journal)) in
-          let Q : List Track → Type 0 = λ ts. RiseWithin 0 (map (λ (t : Track). t.reference) ts) (length (i ∷ journal)) in
+          let Q : List Track → Type 0 =
+          λ ts. RiseWithin 0 (map (λ (t : Track). t.reference) ts) (length (i ∷ journal)) in
           subst P (sym e) (subst Q (sym (append-nil kept))
           (rise_higher 0 (length journal) (length (i ∷ journal)) (map (λ (t : Track). t.reference) kept) (omega arith)
           (rise_kept (outlasts (done_by c s journal i)) 0 (length journal) (tracks_of_journal c s journal) r)))

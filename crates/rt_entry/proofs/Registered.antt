@@ -50,7 +50,8 @@ gives_bind B D (Err e) f h k = tt
 
 -- a meaning's binding is the binding
 
-one_back : (c : Catalog) (role : ℕ) (b : Binding) → Gives (λ (s : Subscribed). s.binding ≡ b) (meaning_of_binding c role b)
+one_back : (c : Catalog) (role : ℕ) (b : Binding)
+    → Gives (λ (s : Subscribed). s.binding ≡ b) (meaning_of_binding c role b)
 one_back c role b =
     let B : Subscribed → Type 0 = λ s. s.binding ≡ b in
     gives_bind (λ x. ⊤) B (or_err why.Event (wanted_of b.wanted)) _ (gives_any (or_err why.Event (wanted_of b.wanted)))
@@ -178,7 +179,8 @@ agree_if false false e r = agree_same r
 
 tested_alike : (f : Filter) (x y : ℕ × Shown) → x.0 ≡ y.0 → x.1.kind ≡ y.1.kind → Agree (test_on f x) (test_on f y)
 tested_alike f x y n k =
-    let P : Result Test FilterFault → Type 0 = λ r. Agree (test_on f x) (if not y.1.selectable then Err ColumnHidden else r) in
+    let P : Result Test FilterFault → Type 0 =
+    λ r. Agree (test_on f x) (if not y.1.selectable then Err ColumnHidden else r) in
     subst P (same n k) (agree_if (not x.1.selectable) (not y.1.selectable) ColumnHidden (seen x.0 x.1.kind))
   where
     seen : ℕ → Kind → Result Test FilterFault
@@ -202,7 +204,8 @@ why_is (Ok t) has x e = let same : t ≡ x = cc in ap (λ (z : Test). Ok z) same
 why_is (Err e) has x p = absurd (cc)
 
 module _ (c : Catalog) (role other : ℕ) where
-  test_agrees : (table : ℕ) (f : Filter) → Agree (test_of f (shown_to c role table)) (test_of f (shown_to c other table))
+  test_agrees : (table : ℕ) (f : Filter)
+      → Agree (test_of f (shown_to c role table)) (test_of f (shown_to c other table))
   unfolding test_of
   test_agrees table f =
       alike_then f _ _ (found_alike c role other table f 0 (enumerate_from 0 (table_at c table).columns))

@@ -20,7 +20,8 @@ use Rattle.rt_entry.proofs.Shapes.{Plain, Below, Shape, plain, joining, tracking
 use Rattle.rt_entry.proofs.Shapes.{fine_for}
 use Rattle.rt_entry.proofs.Grows.{Tagged, is_held, IsSound, remains_by, joined_grows, members_grow}
 use Rattle.rt_presence.proofs.Agree.{or_none}
-use Rattle.rt_entry.proofs.PlainParts.{plain_joins, quiet_front, has_append, shape_has, shape_renews, around_joins, shape_joins, shape_tracks}
+use Rattle.rt_entry.proofs.PlainParts.{plain_joins, quiet_front, has_append, shape_has, shape_renews, around_joins}
+use Rattle.rt_entry.proofs.PlainParts.{shape_joins, shape_tracks}
 
 -- each line of a story has the shape of its number
 abbrev pub members_in : Story → List Member

@@ -195,7 +195,8 @@ module _ (c : Catalog) (s : Settings) (now : Now) (tables : List (List Row)) whe
   of_broadcast : (ch : Channel) (m : Message) → All (broadcast_parts now ch m)
   of_broadcast ch m =
       let to = filter (λ (h : Member). gets_broadcast ch h.channel) now.members in
-      all_append Sourced (tell_if ch.ack ch.slot (reply_ok ch.join_ref m no_members)) (map (broadcast_part m.payload) to)
+      all_append Sourced (tell_if ch.ack ch.slot (reply_ok ch.join_ref m no_members)) (map
+      (broadcast_part m.payload) to)
       (of_tell_if ch.ack ch.slot (reply_ok ch.join_ref m no_members))
       (all_map Sourced (broadcast_part m.payload) to (λ h. tt))
 

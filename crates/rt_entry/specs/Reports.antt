@@ -11,7 +11,8 @@ use Rattle.rt_entry.specs.Audit.{judged_poll, audit_line, audit_lines}
 
 -- the audit's lines of a batch, and of no other entry any
 abbrev pub report_of : Catalog → Entry → List ℕ
-report_of c (Batch number changes tables subs views) = flat_map (audit_line c) (judged_poll c number tables subs changes)
+report_of c (Batch number changes tables subs views) = flat_map (audit_line c)
+    (judged_poll c number tables subs changes)
 report_of c (Notice slot m) = []
 report_of c (Opened slot version) = []
 report_of c (Ended slot name) = []

@@ -1,5 +1,6 @@
 -- What answers make of what a worker keeps is what stands behind the items that they are spelled in.
-use Rattle.std.proofs.Common.{◌≡◌, ℕ, zero, suc, ◌+◌, ◌<◌, ◌≤◌, Bool, true, false, not, cond, List, [], ◌∷◌, ◌++◌, map, length}
+use Rattle.std.proofs.Common.{◌≡◌, ℕ, zero, suc, ◌+◌, ◌<◌, ◌≤◌, Bool, true, false, not, cond, List, [], ◌∷◌, ◌++◌}
+use Rattle.std.proofs.Common.{map, length}
 use Rattle.std.proofs.Common.{drop, refl, sym, ap, ◌∙◌, arith, append_assoc, append-nil}
 use Rattle.std.specs.List.{filter}
 use Rattle.rt_phx.specs.declared.message.Version.{Version}
@@ -69,7 +70,8 @@ placed_append n o [] ys = let e : n ≡ n + 0 = omega arith in ap (λ k. placed_
 placed_append n o (x ∷ xs) ys =
     let e : (n + 1) + length xs ≡ n + length (x ∷ xs) = omega arith in
     ap (λ ps. record { place = n; opening = o; item = x } ∷ ps) (placed_append (n + 1) (opening_after x o) xs ys
-    ∙ ap (λ k. placed_from (n + 1) (opening_after x o) xs ++ placed_from k (opening_behind (opening_after x o) xs) ys) e)
+    ∙ ap (λ k. placed_from (n + 1) (opening_after x o) xs ++ placed_from k (opening_behind
+    (opening_after x o) xs) ys) e)
 
 pub behind_append : (o : ℕ) (xs ys : List Item) → opening_behind o (xs ++ ys) ≡ opening_behind (opening_behind o xs) ys
 behind_append o [] ys = refl

@@ -13,7 +13,8 @@ use Rattle.rt_entry.specs.declared.input.Step.TheVariants.{Push}
 use Rattle.rt_entry.specs.declared.answer.Item.{Item}
 use Rattle.rt_entry.specs.declared.answer.Item.TheVariants.{Message, End}
 use Rattle.rt_entry.specs.Kept.{Kept, keep, kept_pushed, shut, kept_shut, opening_behind}
-use Rattle.rt_entry.specs.Machine.{Cut, Slot, World, Outcome, done, full, Placed, placed_from, placed, opening_after, is_cut, is_uncut}
+use Rattle.rt_entry.specs.Machine.{Cut, Slot, World, Outcome, done, full, Placed, placed_from, placed, opening_after}
+use Rattle.rt_entry.specs.Machine.{is_cut, is_uncut}
 use Rattle.rt_entry.specs.Machine.{is_of_opening, with_slot, with_given, with_cut, push, pending}
 use Rattle.rt_entry.specs.Machine.{worked_items, step_of}
 use Rattle.rt_entry.proofs.Shapes.{eqb_same}
@@ -76,7 +77,8 @@ dropped_to n o (suc count) (x ∷ xs) p rest e =
     record { place = d.place ∙ z; items = d.items; same = d.same; behind = d.behind }
 
 -- a cut more cuts one opening more
-cut_more : (cuts : List Cut) (k : Cut) (o : ℕ) → is_cut (cuts ++ k ∷ []) o ≡ (is_cut cuts o || (k.opening == o || false))
+cut_more : (cuts : List Cut) (k : Cut) (o : ℕ) → is_cut (cuts ++ k ∷ []) o
+    ≡ (is_cut cuts o || (k.opening == o || false))
 cut_more cuts k o = any_append (is_of_opening o) cuts (k ∷ [])
 
 or_last : (b : Bool) → (b || true) ≡ true
@@ -107,7 +109,8 @@ others_alike cuts k n o (x ∷ xs) lt =
     )
 
 -- what is pending behind a cut
-shut_is : (cuts : List Cut) (k : Cut) (v : Version) (n o : ℕ) (items : List Item) → k.opening ≡ o → is_cut cuts o ≡ false
+shut_is : (cuts : List Cut) (k : Cut) (v : Version) (n o : ℕ) (items : List Item)
+    → k.opening ≡ o → is_cut cuts o ≡ false
     → keep v (is_cut (cuts ++ k ∷ []) (opening_behind o items)) (uncut_items (cuts ++ k ∷ []) n o items)
     ≡ shut v (is_cut cuts (opening_behind o items)) (uncut_items cuts n o items)
 shut_is cuts k v n o [] e f = ap (λ b. keep v b []) (cut_own cuts k o e)
@@ -115,7 +118,8 @@ shut_is cuts k v n o (Message m ∷ xs) e f =
     let p : Placed = record { place = n; opening = o; item = Message m } in
     let news = filter (is_uncut (cuts ++ k ∷ [])) (placed_from (n + 1) o xs) in
     let olds = filter (is_uncut cuts) (placed_from (n + 1) o xs) in
-    ap (λ (b : Bool). keep v (is_cut (cuts ++ k ∷ []) (opening_behind o xs)) (map item_of (cond (not b) (p ∷ news) news)))
+    ap (λ (b : Bool). keep v (is_cut (cuts ++ k ∷ []) (opening_behind o xs)) (map item_of (cond (not b)
+    (p ∷ news) news)))
     (cut_own cuts k o e)
     ∙ shut_is cuts k v (n + 1) o xs e f
     ∙ sym (ap (λ (b : Bool). shut v (is_cut cuts (opening_behind o xs)) (map item_of (cond (not b) (p ∷ olds) olds))) f)
@@ -198,7 +202,8 @@ module _ (c : Catalog) (s : Settings) (w : World) (slot : ℕ) (p : Placed) (ps 
       let olds = filter (is_uncut x.cuts) st.rest in
       ap (λ qs. keep v (is_cut cuts (opening_behind 0 made)) (map item_of (filter (is_uncut cuts) qs))) st.dropped
       ∙ ap (λ o. keep v (is_cut cuts o) (map item_of news)) (sym st.last)
-      ∙ sym (ap (λ qs. keep v (is_cut cuts (opening_behind p.opening st.left)) (map item_of (filter (is_uncut cuts) qs)))
+      ∙ sym (ap (λ qs. keep v (is_cut cuts (opening_behind p.opening st.left)) (map item_of (filter
+      (is_uncut cuts) qs)))
       st.same
       ∙ ap (λ (b : Bool). keep v (is_cut cuts (opening_behind p.opening st.left))
       (map item_of (cond (not b) (p ∷ news) news))) (cut_own x.cuts k p.opening refl))

@@ -16,8 +16,10 @@ use Rattle.rt_entry.specs.declared.answer.Answer.{Answer}
 use Rattle.rt_entry.specs.declared.answer.Item.{Item}
 use Rattle.rt_entry.specs.Answers.{Mark, marks_of, lane_marks, answers_of_marks, items_for, spell}
 use Rattle.rt_entry.specs.Kept.{Kept, keep, kept_after, opening_behind}
-use Rattle.rt_entry.specs.Machine.{Cut, Slot, Lane, World, start, Placed, placed_from, placed, is_cut, is_uncut, with_slot}
-use Rattle.rt_entry.specs.Machine.{with_lane, with_given, with_cut, opening_after, lane_of, lane_in, worked_items, pending, run, is_of_opening}
+use Rattle.rt_entry.specs.Machine.{Cut, Slot, Lane, World, start, Placed, placed_from, placed, is_cut, is_uncut}
+use Rattle.rt_entry.specs.Machine.{with_slot}
+use Rattle.rt_entry.specs.Machine.{with_lane, with_given, with_cut, opening_after, lane_of, lane_in, worked_items}
+use Rattle.rt_entry.specs.Machine.{pending, run, is_of_opening}
 use Rattle.rt_entry.specs.Spelling.{version_after}
 use Rattle.rt_entry.proofs.Marks.{lane_more, items_more}
 use Rattle.rt_laws.specs.Working.{marks_in, worked_version, told_by_mark, after_work}

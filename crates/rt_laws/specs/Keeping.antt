@@ -6,7 +6,8 @@ use Rattle.rt_entry.specs.declared.input.Step.{Step}
 use Rattle.rt_entry.specs.declared.input.Step.TheVariants.{Work, Push}
 use Rattle.rt_entry.specs.Answers.{Mark}
 use Rattle.rt_entry.specs.Kept.{Kept, keep, kept_after, kept_pushed, kept_shut, opening_behind}
-use Rattle.rt_entry.specs.Machine.{World, Placed, lane_of, lane_in, worked_items, is_cut, is_full_for, pending, start, step_of, run}
+use Rattle.rt_entry.specs.Machine.{World, Placed, lane_of, lane_in, worked_items, is_cut, is_full_for, pending, start}
+use Rattle.rt_entry.specs.Machine.{step_of, run}
 use Rattle.rt_laws.specs.Working.{marks_in, worked_version, told_by_mark, after_work}
 
 module _ (c : Catalog) (s : Settings) where

@@ -25,9 +25,9 @@ pub fn workers_keep()
     ensures { (c : CatalogData) (s : SettingsData) → WorkersKeep c s }
 {}
 
-/// A push puts the first item that is kept into the outbox; where the outbox is full for it, nothing
-/// of its opening is kept, what is behind the opening's terminator stays, and without one the
-/// opening is cut from then on.
+/// A push puts the first item that is kept into the outbox; where the outbox is full for it,
+/// nothing of its opening is kept, what is behind the opening's terminator stays, and without one
+/// the opening is cut from then on.
 pub fn pushes_take()
     ensures { (c : CatalogData) (s : SettingsData) → PushesTake c s }
 {}

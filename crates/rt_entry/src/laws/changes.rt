@@ -1,7 +1,9 @@
 //! Laws of what a departure, a join and a renewal change.
 
-ghost use Rattle.rt_entry.specs.Departing.{DeparturesAdd, DeparturesLeaveParts, DeparturesLeaveTracks};
-ghost use Rattle.rt_entry.specs.Growing.{SubscriptionsDepart, SubscriptionsJoin, SubscriptionsRenew};
+ghost use Rattle.rt_entry.specs.Departing.{DeparturesAdd, DeparturesLeaveParts};
+ghost use Rattle.rt_entry.specs.Departing.{DeparturesLeaveTracks};
+ghost use Rattle.rt_entry.specs.Growing.{SubscriptionsDepart, SubscriptionsJoin};
+ghost use Rattle.rt_entry.specs.Growing.{SubscriptionsRenew};
 ghost use Rattle.rt_entry.specs.Growing.{WatchersDepart, WatchersJoin, WatchersLeft, WatchersRenew};
 
 /// A departure leaves every other channel's track; channels depart one after another as they depart

@@ -42,8 +42,8 @@ pub fn ids_rise()
     ensures told { (c : CatalogData) (s : SettingsData) → ToldIdsRise c s }
 {}
 
-/// What is present stands in the order of the inputs that tracked it, each track under its channel's
-/// key.
+/// What is present stands in the order of the inputs that tracked it, each track under its
+/// channel's key.
 pub fn tracks_are_ordered()
     ensures references { (c : CatalogData) (s : SettingsData) → ReferencesRise c s }
     ensures keys { (c : CatalogData) (s : SettingsData) → KeysAreTheChannels c s }
