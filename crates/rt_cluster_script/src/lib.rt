@@ -1,0 +1,10 @@
+//! Scripts of several nodes: what they do, tell each other and show.
+#![tactic(auto)]
+
+mod fault;
+mod nodes;
+mod running;
+mod words;
+
+pub use fault::ClusterFault;
+pub use running::run;
