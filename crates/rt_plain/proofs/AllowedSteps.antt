@@ -11,7 +11,7 @@ use Rattle.rt_script.specs.declared.script.Act.{Act}
 use Rattle.rt_script.specs.declared.script.Act.TheVariants.{One}
 use Rattle.rt_script.specs.declared.script.Line.{Line}
 use Rattle.rt_script.specs.declared.script.Script.{Script}
-use Rattle.rt_script.specs.Commands.{lines_of}
+use Rattle.rt_lines.specs.Lines.{lines_of}
 use Rattle.rt_script.specs.Reading.{State, start, IsScript, script_of, with_last_poll}
 use Rattle.rt_script.specs.Running.{take_of, plain_line, line_of, scheduled}
 use Rattle.rt_plain.specs.Plain.{IsFed, IsInput, AreInputs, IsPlain}

@@ -14,7 +14,8 @@ use Rattle.rt_change.specs.declared.fault.ChangeFault.TheVariants as fault
 use Rattle.rt_change.specs.Binding.{change_of}
 use Rattle.rt_script.specs.declared.fault.LineWhy.{LineWhy}
 use Rattle.rt_script.specs.declared.fault.LineWhy.TheVariants as why
-use Rattle.rt_script.specs.Commands.{Command, spelling, is_passed_over, is_setting_word, first_word}
+use Rattle.rt_lines.specs.Lines.{is_passed_over}
+use Rattle.rt_script.specs.Commands.{Command, spelling, is_setting_word, first_word}
 use Rattle.rt_script.specs.Commands.{workers, capacity, lane, inlet, rows, inputs, max_record_bytes, secret}
 use Rattle.rt_script.specs.Commands.{schedule_manual, token, open_, frame, gone, post, wal, poll, tick, stop, take_}
 use Rattle.rt_script.specs.Commands.{feed, clock, send, work, push, pop, drain}

@@ -3,7 +3,7 @@ use Rattle.std.proofs.Common.{◌≡◌, ℕ, ◌+◌, List, [], ◌∷◌, ◌+
 use Rattle.rt_catalog.specs.declared.catalog.Catalog.{Catalog}
 use Rattle.rt_script.specs.declared.fault.LineWhy.{LineWhy}
 use Rattle.rt_script.specs.declared.script.Script.{Script}
-use Rattle.rt_script.specs.Commands.{lines_of}
+use Rattle.rt_lines.specs.Lines.{lines_of}
 use Rattle.rt_script.specs.Reading.{State, start, Takes, Refuses, TakesAll, no_line, next_line, script_of, with_last_poll}
 use Rattle.rt_script.specs.Reading.{IsScript, IsBadLine}
 use Rattle.rt_script.proofs.Lanes.{HasFewLanes, line_few, start_few}

@@ -4,7 +4,6 @@ use Rattle.std.specs.Fmt.{decimal}
 use Rattle.std.specs.Char.{is_ascii_alphanumeric}
 use Rattle.std.specs.List.{list_all, list_any, before_first}
 use Rattle.std.specs.Str.{bytes_eq}
-use Rattle.rt_wal.specs.Records.{without_last}
 use Rattle.rt_phx.specs.declared.message.Version.{Version}
 use Rattle.rt_phx.specs.declared.message.Version.TheVariants.{V1, V2}
 use Rattle.rt_entry.specs.declared.input.Settings.{Settings}
@@ -123,17 +122,3 @@ is_manual (push slot) = true
 is_manual (pop slot) = true
 is_manual drain = true
 is_manual _ = false
-
--- empty lines and lines that begin with `#` are passed over
-abbrev pub is_passed_over : List ℕ → Bool
-is_passed_over [] = true
-is_passed_over (b ∷ line) = b == 35
-
--- Lines end at LF, the last LF may be missing, and a CR before an LF is dropped.
-abbrev pub lines_from : List ℕ → List ℕ → List (List ℕ)
-lines_from [] [] = []
-lines_from (a ∷ line) [] = (a ∷ line) ∷ []
-lines_from line (b ∷ bytes) = elim (b == 10) [ true ↦ without_last 13 line ∷ lines_from [] bytes | false ↦ lines_from (line ++ b ∷ []) bytes ]
-
-abbrev pub lines_of : List ℕ → List (List ℕ)
-lines_of bytes = lines_from [] bytes

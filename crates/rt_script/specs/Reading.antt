@@ -11,6 +11,7 @@ use Rattle.rt_json.specs.Machine.{tree_of}
 use Rattle.rt_wal.specs.declared.records.Record.{Record}
 use Rattle.rt_wal.specs.declared.faults.RecordWhy.{RecordWhy}
 use Rattle.rt_wal.specs.Records.{IsRecordText, IsRefusedText}
+use Rattle.rt_lines.specs.Lines.{is_passed_over, lines_of}
 use Rattle.rt_token.specs.declared.fault.TokenFault.{TokenFault}
 use Rattle.rt_token.specs.Claims.{claims_in_tree}
 use Rattle.rt_token.specs.Tokens.{signed_token}
@@ -34,7 +35,7 @@ use Rattle.rt_script.specs.declared.script.Script.{Script}
 use Rattle.rt_script.specs.declared.fault.LineWhy.{LineWhy}
 use Rattle.rt_script.specs.declared.fault.LineWhy.TheVariants as why
 use Rattle.rt_script.specs.Commands as command
-use Rattle.rt_script.specs.Commands.{Command, spelling, IsInRange, is_setting, is_setting_word, first_word, is_manual, is_passed_over, lines_of}
+use Rattle.rt_script.specs.Commands.{Command, spelling, IsInRange, is_setting, is_setting_word, first_word, is_manual}
 
 abbrev pub default_settings : Settings
 default_settings =
