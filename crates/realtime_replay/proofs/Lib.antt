@@ -1,2 +1,4 @@
+pub mod Nodes
+pub mod SaidTexts
 pub mod Tells
 pub mod WordLists

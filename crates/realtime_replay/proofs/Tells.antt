@@ -1,7 +1,7 @@
 -- What a status tells, from what the parts of a run tell.
 use Rattle.std.proofs.Common.{◌≡◌, ◌≢◌, inl, inr, ℕ, List, [], ◌∷◌, Some, codes, refl, sym, subst, ◌∙◌, ◌<◌, ◌≤◌}
-use Rattle.std.proofs.Common.{length, arith}
-use Rattle.std.specs.Prelude.{IfSome}
+use Rattle.std.proofs.Common.{ap, length, arith}
+use Rattle.std.specs.Prelude.{IfSome, slice_index}
 use Rattle.rt_io.specs.Streams.{Puts}
 use Rattle.rt_io.specs.Whole.{PutsFront}
 use Rattle.rt_entry.specs.declared.input.Input.{Input}
@@ -12,11 +12,11 @@ use Rattle.rt_form.specs.Script.{IsScript}
 use Rattle.rt_form.specs.Statements.{IsCatalogue}
 use Rattle.rt_form.specs.declared.catalogue.Catalogue.{Catalogue}
 use Rattle.rt_form.specs.declared.script.Script.{Script}
-use Rattle.realtime_replay.specs.Answers.{AreOfForm, Befell, Flow, Gave, HasCatalogue, HasFailed, HasNoCatalogue}
-use Rattle.realtime_replay.specs.Answers.{HasNoScript, IsCalm, IsComplete, IsTooLong, IsUntouched, Means, Ran}
-use Rattle.realtime_replay.specs.Answers.{RanInPart, RunTells, Tells, due_bytes, most_bytes, no_command, not_built}
-use Rattle.realtime_replay.specs.Answers.{runs}
+use Rattle.realtime_replay.specs.Answers.{AllUntouched, AreOfForm, Befell, HasCatalogue, HasNoCatalogue, HasNoScript}
+use Rattle.realtime_replay.specs.Answers.{IsCalm, IsComplete, Means, Ran, RanInPart, RunTells, Tells, clusters}
+use Rattle.realtime_replay.specs.Answers.{due_bytes, no_command, not_built, runs}
 use Rattle.realtime_replay.specs.Faults.{of_form, status_of}
+use Rattle.realtime_replay.specs.Flows.{Flow, Gave, HasFailed, IsTooLong, IsUntouched, most_bytes}
 use Rattle.realtime_replay.specs.Parts.{HasOne, HasScript, LacksScript, SourceTells}
 use Rattle.realtime_replay.specs.Words.{IsCommand, NoCommand}
 use Rattle.rt_form.specs.declared.fault.FormFault.{FormFault}
@@ -26,7 +26,7 @@ use Rattle.realtime_replay.specs.declared.fault.RunFault.TheVariants as f
 use Rattle.realtime_replay.specs.declared.status.Status.{Status}
 use Rattle.realtime_replay.specs.declared.status.Status.TheVariants as s
 use Rattle.realtime_replay.specs.declared.words.Command.{Command}
-use Rattle.realtime_replay.specs.declared.words.Command.TheVariants.{Replay, Audit, Check, Generate}
+use Rattle.realtime_replay.specs.declared.words.Command.TheVariants.{Replay, Audit, Check, Generate, Cluster}
 use Rattle.rt_form.proofs.Once.{cons_twice, other_byte}
 
 pub other_fault : form.NotBuilt ≢ form.NoMemory
@@ -57,6 +57,7 @@ pub ended_before : (catalogue script out : Flow) (e : RunFault) → IsUntouched 
     → SourceTells HasNoCatalogue catalogue e
     → RunTells catalogue script out (status_of e)
 ended_before catalogue script out f.NoMemory same kept h = kept
+ended_before catalogue script out (f.Refused line) same kept h = absurd h
 ended_before catalogue script out f.ReadFault same kept h = (inl (h, same), kept)
 ended_before catalogue script out f.TooLong same kept h = (inl (h, same), kept)
 ended_before catalogue script out f.NotBuilt same kept h = (inl (h, same), kept)
@@ -79,6 +80,7 @@ pub ended_behind : (catalogue script out : Flow) (c : Catalogue) (e : RunFault) 
     → SourceTells (LacksScript c) script e
     → RunTells catalogue script out (status_of e)
 ended_behind catalogue script out c f.NoMemory one kept h = kept
+ended_behind catalogue script out c (f.Refused line) one kept h = absurd h
 ended_behind catalogue script out c f.ReadFault one kept h = (inr (c, one.has, h), kept)
 ended_behind catalogue script out c f.TooLong one kept h = (inr (c, one.has, h), kept)
 ended_behind catalogue script out c f.NotBuilt one kept h = (inr (lacks catalogue script c one h), kept)
@@ -125,6 +127,9 @@ no_audit = other_byte (λ e. absurd (let g : 97 ≡ 114 = e in omega arith))
 no_check : codes "check" ≢ codes "replay"
 no_check = other_byte (λ e. absurd (let g : 99 ≡ 114 = e in omega arith))
 
+no_cluster : codes "cluster" ≢ codes "replay"
+no_cluster = other_byte (λ e. absurd (let g : 99 ≡ 114 = e in omega arith))
+
 no_gen : codes "gen" ≢ codes "replay"
 no_gen = other_byte (λ e. absurd (let g : 103 ≡ 114 = e in omega arith))
 
@@ -135,28 +140,62 @@ one_command words Replay h g = refl
 one_command words Audit (a, b, p, q, e) (x, y, u, v, h) = absurd (first_differs no_audit e h)
 one_command words Check (a, p, e) (x, y, u, v, h) = absurd (first_differs no_check e h)
 one_command words (Generate n) (lt, e) (x, y, u, v, h) = absurd (first_differs no_gen e h)
+one_command words Cluster (a, p, e) (x, y, u, v, h) = absurd (first_differs no_cluster e h)
+
+no_other_audit : codes "cluster" ≢ codes "audit"
+no_other_audit = other_byte (λ e. absurd (let g : 99 ≡ 97 = e in omega arith))
+
+no_other_check : codes "cluster" ≢ codes "check"
+no_other_check e = let g : 108 ≡ 104 = ap (λ l. slice_index l 1) e in absurd (omega (arith, g))
+
+no_other_gen : codes "cluster" ≢ codes "gen"
+no_other_gen = other_byte (λ e. absurd (let g : 99 ≡ 103 = e in omega arith))
+
+-- and so are those of `cluster`
+pub one_cluster : (words : List (List ℕ)) (command : Command) → IsCommand words command → IsCommand words Cluster
+    → command ≡ Cluster
+one_cluster words Replay (a, b, p, q, e) (x, u, h) = absurd (first_differs no_cluster h e)
+one_cluster words Audit (a, b, p, q, e) (x, u, h) = absurd (first_differs no_other_audit h e)
+one_cluster words Check (a, p, e) (x, u, h) = absurd (first_differs no_other_check h e)
+one_cluster words (Generate n) (lt, e) (x, u, h) = absurd (first_differs no_other_gen h e)
+one_cluster words Cluster h g = refl
+
+pub two_commands : (words : List (List ℕ)) → IsCommand words Cluster → IsCommand words Replay → ⊥
+two_commands words h g = let e : Cluster ≡ Replay = one_command words Cluster h g in cc
+
+pub all_untouched : {catalogue script out : Flow} → IsUntouched catalogue → IsUntouched script → IsUntouched out
+    → AllUntouched catalogue script out
+all_untouched a b d = record { catalogue_is = a; script_is = b; out_is = d }
+
+-- what a command that is known isn't
+pub differs_from : {command kind other : Command} → command ≡ kind → kind ≢ other → command ≢ other
+differs_from same n e = n (sym same ∙ e)
 
 -- words of no command
 pub usage : (words : List (List ℕ)) (catalogue script out : Flow) (status : Status)
     → Tells words catalogue script out status → NoCommand words → status ≡ s.Usage
 usage words catalogue script out _ (no_command n same) h = refl
-usage words catalogue script out _ (not_built command is other same) h = absurd (h command is)
+usage words catalogue script out _ (not_built command is other another same) h = absurd (h command is)
 usage words catalogue script out _ (runs is tells) h = absurd (h Replay is)
+usage words catalogue script out _ (clusters is kept tells) h = absurd (h Cluster is)
 
 -- words of a command that isn't built
 pub unbuilt : (words : List (List ℕ)) (catalogue script out : Flow) (status : Status) (command : Command)
     → Tells words catalogue script out status
-    → IsCommand words command → command ≢ Replay → status ≡ s.NotBuilt
-unbuilt words catalogue script out _ command (no_command n same) h differs = absurd (n command h)
-unbuilt words catalogue script out _ command (not_built other is n same) h differs = refl
-unbuilt words catalogue script out _ command (runs is tells) h differs =
+    → IsCommand words command → command ≢ Replay → command ≢ Cluster → status ≡ s.NotBuilt
+unbuilt words catalogue script out _ command (no_command n same) h differs another = absurd (n command h)
+unbuilt words catalogue script out _ command (not_built other is n m same) h differs another = refl
+unbuilt words catalogue script out _ command (runs is tells) h differs another =
     absurd (differs (one_command words command h is))
+unbuilt words catalogue script out _ command (clusters is kept tells) h differs another =
+    absurd (another (one_cluster words command h is))
 
 -- what a source gave is what it had left
-gave_all : (source : Flow) (text given : List ℕ) → source.before ≡ Some text → Gave source given → given ≡ text
+pub gave_all : (source : Flow) (text given : List ℕ) → source.before ≡ Some text → Gave source given → given ≡ text
 gave_all source text given e h = (subst (λ o. IfSome o (λ left. (given ≡ left) × (source.after ≡ Some []))) e h.1).0
 
-fits_not : (source : Flow) (text : List ℕ) → source.before ≡ Some text → length text ≤ most_bytes → IsTooLong source → ⊥
+pub fits_not : (source : Flow) (text : List ℕ) → source.before ≡ Some text → length text ≤ most_bytes
+    → IsTooLong source → ⊥
 fits_not source text e le h = let lt : most_bytes < length text = subst
     (λ o. IfSome o (λ bytes. most_bytes < length bytes)) e h in absurd (omega arith)
 
@@ -193,6 +232,7 @@ module _ (catalogue script out : Flow) (text lines : List ℕ) (calm : IsCalm ca
   complete_run : (status : Status) → RunTells catalogue script out status → IsComplete text lines status
   complete_run s.Ok h = record { built = λ form. inl refl; unbuilt = λ none. absurd (none (ran_form h)) }
   complete_run s.Usage h = absurd h
+  complete_run (s.Refused line) h = absurd h
   complete_run s.ReadFault h = absurd (befell_not HasFailed catalogue script calm.catalogue_holds calm.script_holds h.0)
   complete_run s.WriteFault h = absurd (calm.out_holds h.failed)
   complete_run s.NoMemory h = record { built = λ form. inr refl; unbuilt = λ none. inr refl }
@@ -206,7 +246,9 @@ pub complete : (words : List (List ℕ)) (catalogue script out : Flow) (text lin
     → Tells words catalogue script out status
     → IsCommand words Replay → IsCalm catalogue script out text lines → IsComplete text lines status
 complete words catalogue script out text lines _ (no_command n same) is calm = absurd (n Replay is)
-complete words catalogue script out text lines _ (not_built command h differs same) is calm =
+complete words catalogue script out text lines _ (not_built command h differs another same) is calm =
     absurd (differs (one_command words command h is))
+complete words catalogue script out text lines status (clusters h kept tells) is calm =
+    absurd (two_commands words h is)
 complete words catalogue script out text lines status (runs h tells) is calm =
     complete_run catalogue script out text lines calm status tells

@@ -1,9 +1,9 @@
 -- What each answer of the program tells of its words, of the two sources and of the output. For the first that applies,
 -- in this order: the words, reading the catalogue, the catalogue, reading the script, the script, the writing. Want of
 -- memory alone may come in place of any.
-use Rattle.std.specs.Prelude.{◌≡◌, ◌≢◌, ◌⊎◌, ℕ, ◌<◌, ◌≤◌, List, [], codes, length, Option, Some, IfSome}
-use Rattle.rt_io.specs.Streams.{Rose, Puts}
-use Rattle.rt_io.specs.Whole.{ReadsAll, PutsFront}
+use Rattle.std.specs.Prelude.{◌≡◌, ◌≢◌, ◌⊎◌, ℕ, ◌≤◌, List, length, Some}
+use Rattle.rt_io.specs.Streams.{Puts}
+use Rattle.rt_io.specs.Whole.{PutsFront}
 use Rattle.rt_entry.specs.declared.input.Input.{Input}
 use Rattle.rt_script.specs.Reading.{default_settings}
 use Rattle.rt_script.specs.Running.{printed_due}
@@ -12,40 +12,13 @@ use Rattle.rt_form.specs.Script.{IsScript}
 use Rattle.rt_form.specs.Statements.{IsCatalogue}
 use Rattle.rt_form.specs.declared.catalogue.Catalogue.{Catalogue}
 use Rattle.rt_form.specs.declared.script.Script.{Script}
+use Rattle.realtime_replay.specs.Clusters.{ClusterTells}
+use Rattle.realtime_replay.specs.Flows.{Flow, Gave, HasFailed, IsTooLong, IsUntouched, IsStatus, most_bytes}
 use Rattle.realtime_replay.specs.Words.{IsCommand, NoCommand}
 use Rattle.realtime_replay.specs.declared.words.Command.{Command}
-use Rattle.realtime_replay.specs.declared.words.Command.TheVariants.{Replay}
+use Rattle.realtime_replay.specs.declared.words.Command.TheVariants.{Replay, Cluster}
 use Rattle.realtime_replay.specs.declared.status.Status.{Status}
 use Rattle.realtime_replay.specs.declared.status.Status.TheVariants as s
-
--- A source or a sink in a call: what it had left, or had taken, at the call and at the return, and how often it had
--- failed.
-pub record Flow : Type 0 where
-  pub before : Option (List ℕ)
-  pub after : Option (List ℕ)
-  pub failed : ℕ
-  pub failed_after : ℕ
-
-abbrev pub flow : Option (List ℕ) → Option (List ℕ) → ℕ → ℕ → Flow
-flow before after failed failed_after =
-    record { before = before; after = after; failed = failed; failed_after = failed_after }
-
-abbrev pub HasFailed : Flow → Type 0
-HasFailed f = Rose f.failed f.failed_after
-
-abbrev pub IsUntouched : Flow → Type 0
-IsUntouched f = f.after ≡ f.before
-
--- the most bytes of a source
-abbrev pub most_bytes : ℕ
-most_bytes = 67108864
-
-abbrev pub IsTooLong : Flow → Type 0
-IsTooLong f = IfSome f.before (λ bytes. most_bytes < length bytes)
-
--- the text is all that the source had left, and it was read to its end
-abbrev pub Gave : Flow → List ℕ → Type 0
-Gave f text = ReadsAll f.before f.after most_bytes text
 
 -- the source gave the text of a catalogue of the first form
 pub record HasCatalogue (source : Flow) (c : Catalogue) : Type 0 where
@@ -101,6 +74,7 @@ Befell P catalogue script = (P catalogue × IsUntouched script) ⊎ ((c : Catalo
 abbrev pub RunTells : Flow → Flow → Flow → Status → Type 0
 RunTells catalogue script out s.Ok = Ran catalogue script out
 RunTells catalogue script out s.Usage = ⊥
+RunTells catalogue script out (s.Refused line) = ⊥
 RunTells catalogue script out s.ReadFault = Befell HasFailed catalogue script × IsUntouched out
 RunTells catalogue script out s.WriteFault = RanInPart catalogue script out
 RunTells catalogue script out s.NoMemory = IsUntouched out
@@ -117,9 +91,11 @@ pub record AllUntouched (catalogue script out : Flow) : Type 0 where
 pub data Tells (words : List (List ℕ)) (catalogue script out : Flow) : Status → Type 0 where
   no_command : NoCommand words → AllUntouched catalogue script out → Tells words catalogue script out s.Usage
   -- a command that isn't built
-  not_built : (command : Command) → IsCommand words command → command ≢ Replay → AllUntouched catalogue script out
-      → Tells words catalogue script out s.NotBuilt
+  not_built : (command : Command) → IsCommand words command → command ≢ Replay → command ≢ Cluster
+      → AllUntouched catalogue script out → Tells words catalogue script out s.NotBuilt
   runs : {status : Status} → IsCommand words Replay → RunTells catalogue script out status
+      → Tells words catalogue script out status
+  clusters : {status : Status} → IsCommand words Cluster → IsUntouched catalogue → ClusterTells script out status
       → Tells words catalogue script out status
 
 -- Both texts are known and not too long, and no source and no sink failed in the call.
@@ -132,10 +108,6 @@ pub record IsCalm (catalogue script out : Flow) (text lines : List ℕ) : Type 0
   pub script_holds : HasFailed script → ⊥
   pub out_holds : HasFailed out → ⊥
 
--- the status is this one, or memory ran out
-abbrev pub IsStatus : Status → Status → Type 0
-IsStatus status result = (result ≡ status) ⊎ (result ≡ s.NoMemory)
-
 -- the texts are of the first form
 pub record AreOfForm (text lines : List ℕ) : Type 0 where
   pub c : Catalogue
@@ -147,17 +119,3 @@ pub record AreOfForm (text lines : List ℕ) : Type 0 where
 pub record IsComplete (text lines : List ℕ) (result : Status) : Type 0 where
   pub built : AreOfForm text lines → IsStatus s.Ok result
   pub unbuilt : (AreOfForm text lines → ⊥) → IsStatus s.NotBuilt result
-
--- the line of a status on the error stream, none where the run ended well
-abbrev pub line_of : Status → List ℕ
-line_of s.Ok = []
-line_of s.Usage = codes "usage: realtime-replay replay|audit CATALOGUE SCRIPT, check CATALOGUE, gen N\n"
-line_of s.ReadFault = codes "read fault\n"
-line_of s.WriteFault = codes "write fault\n"
-line_of s.NoMemory = codes "out of memory\n"
-line_of s.TooLong = codes "too long\n"
-line_of s.NotBuilt = codes "not built\n"
-
--- the error stream was given the bytes, or it failed and was given some first of them
-abbrev pub Said : Flow → List ℕ → Type 0
-Said err bytes = Puts err.before err.after bytes ⊎ (HasFailed err × PutsFront err.before err.after bytes)

@@ -4,7 +4,8 @@ use Rattle.rt_form.specs.Script.{IsScript}
 use Rattle.rt_form.specs.Statements.{IsCatalogue}
 use Rattle.rt_form.specs.declared.catalogue.Catalogue.{Catalogue}
 use Rattle.rt_form.specs.declared.script.Script.{Script}
-use Rattle.realtime_replay.specs.Answers.{Flow, Gave, HasCatalogue, HasFailed, IsTooLong}
+use Rattle.realtime_replay.specs.Answers.{HasCatalogue}
+use Rattle.realtime_replay.specs.Flows.{Flow, Gave, HasFailed, IsTooLong}
 use Rattle.realtime_replay.specs.declared.fault.RunFault.{RunFault}
 use Rattle.realtime_replay.specs.declared.fault.RunFault.TheVariants as f
 
@@ -27,6 +28,7 @@ pub record LacksScript (c : Catalogue) (source : Flow) : Type 0 where
 -- what a fault tells of the source, with what it lacks
 abbrev pub SourceTells : (Flow → Type 0) → Flow → RunFault → Type 0
 SourceTells Lacks source f.NoMemory = Unit {0}
+SourceTells Lacks source (f.Refused line) = ⊥
 SourceTells Lacks source f.ReadFault = HasFailed source
 SourceTells Lacks source f.TooLong = IsTooLong source
 SourceTells Lacks source f.NotBuilt = Lacks source

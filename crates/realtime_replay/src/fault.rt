@@ -1,3 +1,4 @@
+use rt_cluster_script::ClusterFault;
 use rt_form::FormFault;
 use rt_io::{ReadAllFault, WriteFault};
 use std::alloc::AllocError;
@@ -8,6 +9,9 @@ use thiserror::Error;
 pub enum RunFault {
     #[error("out of memory")]
     NoMemory,
+    /// A line of the script is refused.
+    #[error("line {line}: form")]
+    Refused { line: u64 },
     /// A source failed.
     #[error("read fault")]
     ReadFault,
@@ -43,6 +47,20 @@ impl From<FormFault> for RunFault {
         match fault {
             FormFault::NoMemory => RunFault::NoMemory,
             FormFault::NotBuilt => RunFault::NotBuilt,
+        }
+    }
+}
+
+impl From<ClusterFault> for RunFault {
+    ghost use Rattle.std.specs.Prelude.{◌≡◌};
+    ghost use Rattle.realtime_replay.specs.Faults.{of_nodes};
+
+    ghost from_gives = { λ script fault. fault ≡ of_nodes script };
+
+    fn from(fault: ClusterFault) -> RunFault {
+        match fault {
+            ClusterFault::NoMemory => RunFault::NoMemory,
+            ClusterFault::Refused { line } => RunFault::Refused { line },
         }
     }
 }

@@ -1,9 +1,11 @@
 //! Replays a recorded stream over a catalogue and says what each socket gets.
 #![tactic(auto)]
 
+mod clustering;
 mod fault;
 mod places;
 mod replaying;
+mod saying;
 mod status;
 mod words;
 
@@ -34,9 +36,10 @@ fn replay_places<R: Files + Input + Threads + Sync, O: Sink, E: Sink>(
     out: &mut O,
     err: &mut E,
 ) -> Status {
-    // Where a word is missing, `replay` refuses the words before it reads.
+    // Where a word is missing, `replay` refuses the words before it reads. A script of nodes stands
+    // alone.
     let catalogue_place = words.get(1).copied().unwrap_or("");
-    let script_place = words.get(2).copied().unwrap_or("");
+    let script_place = words.get(2).copied().unwrap_or(catalogue_place);
     let mut catalogue = StandardSource::new(fs::open(rt, catalogue_place));
     let mut script = StandardSource::new(open_script(rt, script_place));
     replay(rt, alloc, words, &mut catalogue, &mut script, out, err)
@@ -63,5 +66,5 @@ fn main(rt: HostRuntime) -> ExitCode {
         Ok(status) => status,
         Err(fault) => refuse(&mut err, &fault),
     };
-    ExitCode::from(status as u8)
+    ExitCode::from(status.number())
 }

@@ -3,15 +3,20 @@ ghost use Rattle.std.specs.IoError.{error_kind};
 ghost use Rattle.rt_form.specs.Output.{given};
 ghost use Rattle.rt_form.specs.Printed.{printed};
 ghost use Rattle.realtime_replay.specs.Answers.{HasNoCatalogue, IsCalm, IsComplete, Ran, RunTells};
-ghost use Rattle.realtime_replay.specs.Answers.{Said, Tells, flow, line_of};
+ghost use Rattle.realtime_replay.specs.Answers.{Tells};
+ghost use Rattle.realtime_replay.specs.Clusters.{IsCalmAlone, IsClusterComplete};
 ghost use Rattle.realtime_replay.specs.Faults as faults;
+ghost use Rattle.realtime_replay.specs.Flows.{flow};
+ghost use Rattle.realtime_replay.specs.Lines.{Said, line_of};
 ghost use Rattle.realtime_replay.specs.Parts.{HasOne, HasScript, LacksScript, SourceTells};
 ghost use Rattle.realtime_replay.specs.Words.{IsCommand, NoCommand};
 ghost use Rattle.realtime_replay.specs.declared.words.Command.{Command};
 
+use crate::clustering::cluster_status;
 use crate::fault::RunFault;
+use crate::saying::say;
 use crate::status::{Status, status_of, status_without_words};
-use crate::words::command_of;
+use crate::words::{Command, command_of};
 use rt_first::laws::given_is_due;
 use rt_form::{
     Catalogue, Script, change, join_reply, print_slot, read_catalogue, read_script, subscribed,
@@ -24,7 +29,7 @@ use std::io::ErrorKind;
 use std::thread::Threads;
 
 /// The most bytes of a source.
-const MOST_SOURCE_BYTES: usize = 67108864;
+pub const MOST_SOURCE_BYTES: usize = 67108864;
 
 /// The catalogue of the first form that a source gives.
 fn catalogue_from<S: Source>(alloc: Global, source: &mut S) -> Result<Catalogue, RunFault>
@@ -137,18 +142,12 @@ fn done<C: Source, S: Source, O: Sink>(
 {
     match command_of(words) {
         None => Status::Usage,
-        Some(command) if command.is_built() => status_after(alloc, catalogue, script, out),
-        Some(_) => Status::NotBuilt,
+        Some(Command::Replay) => status_after(alloc, catalogue, script, out),
+        Some(Command::Cluster) => cluster_status(alloc, script, out),
+        Some(Command::Audit) => Status::NotBuilt,
+        Some(Command::Check) => Status::NotBuilt,
+        Some(Command::Generate(_)) => Status::NotBuilt,
     }
-}
-
-/// Says a status on the error stream. That it can't be said changes nothing.
-fn say<E: Sink>(err: &mut E, status: Status)
-    ensures { Said
-        (flow (E.held err.old) (E.held err.new) (E.faults err.old) (E.faults err.new))
-        (line_of status) }
-{
-    let _ = write_all(err, status.line().as_bytes());
 }
 
 /// Ends a program whose command line gave an error in place of its words: `Usage` where one of them
@@ -166,11 +165,13 @@ pub fn refuse<E: Sink>(err: &mut E, error: &io::Error) -> Status
 }
 
 /// Does what the words say: `replay CATALOGUE SCRIPT` runs a script over a catalogue and writes to
-/// `out` what each slot was given, a line for each message.
+/// `out` what each slot was given, a line for each message. `cluster SCRIPT` runs a script of
+/// nodes, without a catalogue, and writes what they show of presence.
 ///
 /// The answer is the first of these that applies: `Usage` for other words, `NotBuilt` for a command
 /// that isn't built, `ReadFault` and `TooLong` of the catalogue, `NotBuilt` for a catalogue of
-/// another form, the same three of the script, and `WriteFault`. Nothing is written to `out` before
+/// another form, `ReadFault` and `TooLong` of the script, `NotBuilt` for one of another form, or
+/// `Refused` for a line of a script of nodes, and `WriteFault`. Nothing is written to `out` before
 /// the run has ended. `err` is given the status's line; that it can't be changes nothing. No thread
 /// is started yet.
 pub fn replay<R: Threads + Sync, C: Source, S: Source, O: Sink, E: Sink>(
@@ -190,7 +191,7 @@ pub fn replay<R: Threads + Sync, C: Source, S: Source, O: Sink, E: Sink>(
         result }
     ensures others { NoCommand (map (λ w. w.now) words.now) → result ≡ Status.Usage }
     ensures unbuilt { (command : Command) → IsCommand (map (λ w. w.now) words.now) command
-        → command ≢ Command.Replay → result ≡ Status.NotBuilt }
+        → command ≢ Command.Replay → command ≢ Command.Cluster → result ≡ Status.NotBuilt }
     ensures complete { (text lines : List ℕ) → IsCommand (map (λ w. w.now) words.now) Command.Replay
         → IsCalm
         (flow (C.left catalogue.old) (C.left catalogue.new)
@@ -199,6 +200,13 @@ pub fn replay<R: Threads + Sync, C: Source, S: Source, O: Sink, E: Sink>(
         (flow (O.held out.old) (O.held out.new) (O.faults out.old) (O.faults out.new))
         text lines
         → IsComplete text lines result }
+    ensures complete_cluster { (lines : List ℕ)
+        → IsCommand (map (λ w. w.now) words.now) Command.Cluster
+        → IsCalmAlone
+        (flow (S.left script.old) (S.left script.new) (S.faults script.old) (S.faults script.new))
+        (flow (O.held out.old) (O.held out.new) (O.faults out.old) (O.faults out.new))
+        lines
+        → IsClusterComplete lines result }
     ensures said { Said
         (flow (E.held err.old) (E.held err.new) (E.faults err.old) (E.faults err.new))
         (line_of result) }

@@ -1,28 +1,30 @@
 ghost use Rattle.std.specs.Prelude.{◌≡◌, ◌≢◌};
 ghost use Rattle.std.specs.IoError.{error_kind};
-ghost use Rattle.realtime_replay.specs.Answers.{line_of};
+ghost use Rattle.realtime_replay.specs.Lines.{number_of};
 ghost use Rattle.realtime_replay.specs.Faults.{status_of};
 
 use crate::fault::RunFault;
 use std::io::{Error, ErrorKind};
 
-/// How a run ended. The number is the program's exit status.
+/// How a run ended.
 #[derive(Clone, Copy)]
 pub enum Status {
     /// The whole script ran, and the output was written.
-    Ok = 0,
+    Ok,
     /// The words are no command.
-    Usage = 2,
+    Usage,
+    /// A line of the script is refused, the first of them, counted from 1.
+    Refused { line: u64 },
     /// A source failed.
-    ReadFault = 5,
+    ReadFault,
     /// The output failed. Nothing or some first bytes of it were written.
-    WriteFault = 6,
+    WriteFault,
     /// Memory ran out.
-    NoMemory = 7,
+    NoMemory,
     /// A source has more bytes than are read.
-    TooLong = 8,
+    TooLong,
     /// The command, the catalogue or the script isn't of the form that is built.
-    NotBuilt = 13,
+    NotBuilt,
 }
 
 /// The status of a run that a fault ended.
@@ -31,6 +33,7 @@ pub fn status_of(fault: RunFault) -> Status
 {
     match fault {
         RunFault::NoMemory => Status::NoMemory,
+        RunFault::Refused { line } => Status::Refused { line },
         RunFault::ReadFault => Status::ReadFault,
         RunFault::TooLong => Status::TooLong,
         RunFault::NotBuilt => Status::NotBuilt,
@@ -52,20 +55,19 @@ pub fn status_without_words(error: &Error) -> Status
 }
 
 impl Status {
-    /// The line that says it on the error stream, none where the run ended well.
-    pub fn line(self) -> &'static str
-        ensures { result.now ≡ line_of self }
+    /// The program's exit status.
+    pub fn number(self) -> u8
+        ensures { result ≡ number_of self }
     {
         match self {
-            Status::Ok => "",
-            Status::Usage => {
-                "usage: realtime-replay replay|audit CATALOGUE SCRIPT, check CATALOGUE, gen N\n"
-            }
-            Status::ReadFault => "read fault\n",
-            Status::WriteFault => "write fault\n",
-            Status::NoMemory => "out of memory\n",
-            Status::TooLong => "too long\n",
-            Status::NotBuilt => "not built\n",
+            Status::Ok => 0,
+            Status::Usage => 2,
+            Status::Refused { .. } => 4,
+            Status::ReadFault => 5,
+            Status::WriteFault => 6,
+            Status::NoMemory => 7,
+            Status::TooLong => 8,
+            Status::NotBuilt => 13,
         }
     }
 }

@@ -1,4 +1,4 @@
-ghost use Rattle.std.specs.Prelude.{◌≡◌, ◌↔◌, map, IsTrue, MatchOption, List, ℕ, false, ◌∷◌, []};
+ghost use Rattle.std.specs.Prelude.{◌≡◌, map, MatchOption, ◌∷◌, []};
 ghost use Rattle.realtime_replay.specs.Words.{IsCommand, NoCommand, is_option};
 
 use rt_form::number_of;
@@ -14,15 +14,8 @@ pub enum Command {
     Check,
     /// `gen N`: the digest of a generated run.
     Generate(u32),
-}
-
-impl Command {
-    /// Whether it is built.
-    pub fn is_built(self) -> bool
-        ensures { IsTrue result ↔ (self ≡ Command.Replay) }
-    {
-        matches!(self, Command::Replay)
-    }
+    /// `cluster SCRIPT`: what several nodes show of presence.
+    Cluster,
 }
 
 /// An option begins with `-` and is longer than that; the program has none.
@@ -41,6 +34,7 @@ fn of_one(name: &str, first: &str) -> Option<Command>
 {
     match name {
         "check" if !is_option(first) => Some(Command::Check),
+        "cluster" if !is_option(first) => Some(Command::Cluster),
         "gen" => number_of(first).map(Command::Generate),
         _ => None,
     }
