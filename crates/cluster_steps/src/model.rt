@@ -4,36 +4,36 @@ use std::alloc::{AllocError, Global};
 use std::collections::{BTreeMap, BTreeSet};
 
 /// How many topics there are.
-pub const TOPICS: u32 = 4;
+pub(crate) const TOPICS: u32 = 4;
 
 /// How many keys a topic has.
-pub const KEYS: u32 = 8;
+pub(crate) const KEYS: u32 = 8;
 
 /// What a track shows.
 #[derive(Clone, Copy, PartialEq, Eq, Debug, Drop)]
-pub struct Shown {
-    pub topic: u32,
-    pub key: u32,
-    pub value: u32,
+pub(crate) struct Shown {
+    pub(crate) topic: u32,
+    pub(crate) key: u32,
+    pub(crate) value: u32,
 }
 
 /// What one operation does.
 #[derive(Drop)]
-pub struct Deed {
-    pub made: Option<(Dot, Shown)>,
-    pub gone: Vec<Dot>,
+pub(crate) struct Deed {
+    pub(crate) made: Option<(Dot, Shown)>,
+    pub(crate) gone: Vec<Dot>,
 }
 
 /// The marks that a node knows, and the dots of those that are gone.
 #[derive(Drop)]
-pub struct Model {
+pub(crate) struct Model {
     marks: BTreeMap<Dot, Shown>,
     gone: BTreeSet<Dot>,
 }
 
 impl Model {
     /// Nothing is known.
-    pub fn new(alloc: Global) -> Self {
+    pub(crate) fn new(alloc: Global) -> Self {
         Model {
             marks: BTreeMap::new(alloc),
             gone: BTreeSet::new(alloc),
@@ -41,7 +41,7 @@ impl Model {
     }
 
     /// The node's own dots under the key of the topic, or all of the node's.
-    pub fn dots(
+    pub(crate) fn dots(
         &self,
         alloc: Global,
         node: u32,
@@ -61,7 +61,7 @@ impl Model {
     }
 
     /// Puts the mark in, where it isn't gone.
-    pub fn hear_of_mark(&mut self, dot: Dot, shown: Shown) -> Result<(), AllocError> {
+    pub(crate) fn hear_of_mark(&mut self, dot: Dot, shown: Shown) -> Result<(), AllocError> {
         if self.gone.contains(&dot) {
             return Ok(());
         }
@@ -72,7 +72,7 @@ impl Model {
     }
 
     /// The mark of the dot is gone, whether it is known or comes later.
-    pub fn hear_of_gone(&mut self, dot: Dot) -> Result<(), AllocError> {
+    pub(crate) fn hear_of_gone(&mut self, dot: Dot) -> Result<(), AllocError> {
         self.marks.remove(&dot);
         match self.gone.insert(dot) {
             Ok(_) => Ok(()),
@@ -81,7 +81,7 @@ impl Model {
     }
 
     /// Takes in one operation.
-    pub fn hear(&mut self, deed: &Deed) -> Result<(), AllocError> {
+    pub(crate) fn hear(&mut self, deed: &Deed) -> Result<(), AllocError> {
         if let Some((dot, shown)) = deed.made {
             self.hear_of_mark(dot, shown)?;
         }
@@ -92,7 +92,7 @@ impl Model {
     }
 
     /// Takes in all that the other knows.
-    pub fn hear_all(&mut self, other: &Model) -> Result<(), AllocError> {
+    pub(crate) fn hear_all(&mut self, other: &Model) -> Result<(), AllocError> {
         for dot in &other.gone {
             self.hear_of_gone(*dot)?;
         }
@@ -103,7 +103,7 @@ impl Model {
     }
 
     /// The state of a topic, as it is written.
-    pub fn state(&self, alloc: Global, topic: u32) -> Result<String, AllocError> {
+    pub(crate) fn state(&self, alloc: Global, topic: u32) -> Result<String, AllocError> {
         let mut state = String::from_str(alloc, "{")?;
         for key in 0..KEYS {
             let metas = self.metas(alloc, topic, key)?;

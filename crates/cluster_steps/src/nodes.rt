@@ -6,7 +6,7 @@ use std::alloc::{AllocError, Global};
 use std::io;
 
 /// How many nodes there are.
-pub const COUNT: u32 = 5;
+pub(crate) const COUNT: u32 = 5;
 
 /// A replica, and the plain model of what its node knows.
 #[derive(Drop)]
@@ -24,7 +24,7 @@ struct Told {
 
 /// The nodes, all that was told, and counts of what was done.
 #[derive(Drop)]
-pub struct Nodes {
+pub(crate) struct Nodes {
     nodes: Vec<Node>,
     told: Vec<Told>,
     given: u32,
@@ -60,7 +60,7 @@ fn shown_state(alloc: Global, replica: &Replica, topic: u32) -> io::Result<Strin
 
 impl Nodes {
     /// Nodes that know nothing.
-    pub fn new(alloc: Global) -> io::Result<Self> {
+    pub(crate) fn new(alloc: Global) -> io::Result<Self> {
         let mut nodes = Vec::new(alloc);
         for number in 0..COUNT {
             nodes.push(Node {
@@ -78,27 +78,33 @@ impl Nodes {
     }
 
     /// How many operations there were.
-    pub fn told(&self) -> usize {
+    pub(crate) fn told(&self) -> usize {
         self.told.len()
     }
 
     /// How many deltas were given.
-    pub fn given(&self) -> u32 {
+    pub(crate) fn given(&self) -> u32 {
         self.given
     }
 
     /// How many states were compared.
-    pub fn compared(&self) -> u32 {
+    pub(crate) fn compared(&self) -> u32 {
         self.compared
     }
 
     /// How many of those differed.
-    pub fn differing(&self) -> u32 {
+    pub(crate) fn differing(&self) -> u32 {
         self.differing
     }
 
     /// The node tracks a value. The word says under which key of which topic.
-    pub fn track(&mut self, alloc: Global, node: u32, word: u32, value: u32) -> io::Result<()> {
+    pub(crate) fn track(
+        &mut self,
+        alloc: Global,
+        node: u32,
+        word: u32,
+        value: u32,
+    ) -> io::Result<()> {
         let (topic, key) = place_of(word);
         let Some(own) = self.nodes.get_mut(node as usize) else {
             return failed();
@@ -129,7 +135,7 @@ impl Nodes {
     }
 
     /// The node ends what it tracks under the key of the topic that the word says.
-    pub fn untrack(&mut self, alloc: Global, node: u32, word: u32) -> io::Result<()> {
+    pub(crate) fn untrack(&mut self, alloc: Global, node: u32, word: u32) -> io::Result<()> {
         let (topic, key) = place_of(word);
         let Some(own) = self.nodes.get_mut(node as usize) else {
             return failed();
@@ -144,7 +150,7 @@ impl Nodes {
     }
 
     /// The node removes what the other shows.
-    pub fn drop_node(&mut self, alloc: Global, node: u32, other: u32) -> io::Result<()> {
+    pub(crate) fn drop_node(&mut self, alloc: Global, node: u32, other: u32) -> io::Result<()> {
         let Some(own) = self.nodes.get_mut(node as usize) else {
             return failed();
         };
@@ -156,7 +162,7 @@ impl Nodes {
     }
 
     /// Gives the node the delta of an operation before.
-    pub fn give(&mut self, alloc: Global, node: u32, word: u32) -> io::Result<()> {
+    pub(crate) fn give(&mut self, alloc: Global, node: u32, word: u32) -> io::Result<()> {
         let count = self.told.len();
         if count == 0 {
             return Ok(());
@@ -174,7 +180,7 @@ impl Nodes {
     }
 
     /// Gives `to` all that `from` knows.
-    pub fn sync(&mut self, alloc: Global, from: u32, to: u32) -> io::Result<()> {
+    pub(crate) fn sync(&mut self, alloc: Global, from: u32, to: u32) -> io::Result<()> {
         let Some(source) = self.nodes.get(from as usize) else {
             return failed();
         };
@@ -191,7 +197,7 @@ impl Nodes {
     }
 
     /// Gives all that each node knows to all.
-    pub fn sync_all(&mut self, alloc: Global) -> io::Result<()> {
+    pub(crate) fn sync_all(&mut self, alloc: Global) -> io::Result<()> {
         for from in 0..COUNT {
             for to in 0..COUNT {
                 self.sync(alloc, from, to)?;
@@ -205,7 +211,7 @@ impl Nodes {
     }
 
     /// Compares each node's states with its model's.
-    pub fn compare(&mut self, alloc: Global) -> io::Result<()> {
+    pub(crate) fn compare(&mut self, alloc: Global) -> io::Result<()> {
         for node in &self.nodes {
             for topic in 0..TOPICS {
                 let state = shown_state(alloc, &node.replica, topic)?;
@@ -220,7 +226,7 @@ impl Nodes {
     }
 
     /// How many nodes show another state of a topic than the first.
-    pub fn unlike(&self, alloc: Global) -> io::Result<u32> {
+    pub(crate) fn unlike(&self, alloc: Global) -> io::Result<u32> {
         let Some(first) = self.nodes.first() else {
             return failed();
         };
