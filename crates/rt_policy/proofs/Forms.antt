@@ -15,7 +15,7 @@ use Rattle.rt_policy.specs.Truth.{truth_in, worth_of_truth, compared, one_of, or
 use Rattle.rt_policy.specs.declared.joining.Joining.{Joining}
 use Rattle.rt_policy.specs.declared.joining.Joining.TheVariants.{And, Or, EqualTo}
 use Rattle.rt_policy.specs.Joining.{joined, none_of, truth_by, combined}
-use Rattle.rt_policy.specs.Lent.{value_of}
+use Rattle.rt_value.specs.Lent.{value_of}
 use Rattle.rt_policy.specs.Worth.{Who, Place, View, worth_step, worth}
 
 map_map : (f : Judge → Place → Value) (at : Place) (all : List Judge) →

@@ -6,7 +6,7 @@ use Rattle.rt_policy.specs.declared.joining.Joining.TheVariants.{And, Or, EqualT
 use Rattle.rt_policy.specs.declared.judge.Comparison.TheVariants as comparison
 use Rattle.rt_policy.specs.declared.judge.Truth.{Truth}
 use Rattle.rt_policy.specs.declared.judge.Truth.TheVariants.{True, False}
-use Rattle.rt_policy.specs.Lent.{value_of}
+use Rattle.rt_value.specs.Lent.{value_of}
 use Rattle.rt_policy.specs.Truth.{truth_in, compared, and_of, or_of, all_of, any_of, one_of}
 
 abbrev pub joined : Joining → List Value → Truth

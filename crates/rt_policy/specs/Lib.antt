@@ -1,7 +1,6 @@
 pub mod Grammar
 pub mod InnerTable
 pub mod Joining
-pub mod Lent
 pub mod Machine
 pub mod Parse
 pub mod Parts

@@ -1,9 +1,8 @@
 ghost use Rattle.std.specs.Prelude.{◌≡◌};
-ghost use Rattle.rt_policy.specs.Lent.{value_of};
+ghost use Rattle.rt_value.specs.Lent.{value_of};
 ghost use Rattle.rt_policy.specs.Worth.{uuid_or_null, text_or_null, claim_of};
 
-use crate::lent::LentValue;
-use rt_value::{Claim, Text};
+use rt_value::{Claim, LentValue, Text};
 
 /// The user of the claims, null where they name none.
 pub fn uuid(sub: Option<u128>) -> LentValue<'static>

@@ -1,17 +1,17 @@
 ghost use Rattle.std.specs.Prelude.{◌≡◌, ◌==◌, ◌||◌, not, Some, map, slice_get};
 ghost use Rattle.std.specs.List.{list_any};
 ghost use Rattle.std.specs.Option.{option_copied};
-ghost use Rattle.rt_policy.specs.Lent.{value_of};
+ghost use Rattle.rt_value.specs.Lent.{value_of};
 ghost use Rattle.rt_policy.specs.Joining.{joined};
 ghost use Rattle.rt_policy.specs.Worth.{Place, worth, who_of, shows};
 ghost use Rattle.rt_policy.specs.Visibility.{visibility, is_yes, view_of, truth_for, judged, lists};
 
 use crate::claims::{claim, uuid};
 use crate::joining::Joining;
-use crate::lent::{LentValue, cell, cell_in, lend};
+use crate::lent::{cell, cell_in};
 use crate::logic::{as_value, compare_by, is_true, meets, negate, truth_of};
 use crate::{Caller, Judge, Policy, Rules, Seen, TableRules, Truth};
-use rt_value::{Db, Row, rows_in};
+use rt_value::{Db, LentValue, Row, lend, rows_in};
 
 fn contains(roles: &[u32], role: u32) -> bool
     ensures { result ≡ list_any (λ r. r == role) roles.now }

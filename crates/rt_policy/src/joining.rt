@@ -1,10 +1,10 @@
 ghost use Rattle.std.specs.Prelude.{◌≡◌};
-ghost use Rattle.rt_policy.specs.Lent.{value_of};
+ghost use Rattle.rt_value.specs.Lent.{value_of};
 ghost use Rattle.rt_policy.specs.Joining.{none_of, truth_by, combined};
 
-use crate::lent::LentValue;
 use crate::logic::{both, compare_by, either, truth_of};
 use crate::{Comparison, Truth};
+use rt_value::LentValue;
 
 /// How the values of a list of expressions give one truth.
 #[derive(Clone, Copy)]

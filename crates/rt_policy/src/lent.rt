@@ -1,38 +1,11 @@
 ghost use Rattle.std.specs.Prelude.{◌≡◌};
 ghost use Rattle.std.specs.Option.{option_copied};
 ghost use Rattle.rt_value.specs.Order.{compared as order_of};
-ghost use Rattle.rt_policy.specs.Lent.{value_of};
+ghost use Rattle.rt_value.specs.Lent.{value_of};
 ghost use Rattle.rt_policy.specs.Truth.{cell_at, cell_of};
 
-use rt_value::{Row, Value};
+use rt_value::{LentValue, Row, lend};
 use std::cmp::Ordering;
-
-/// A value whose text is on loan.
-#[derive(Clone, Copy)]
-pub enum LentValue<'a> {
-    Null,
-    Int(i64),
-    Text(&'a str),
-    Bool(bool),
-    Uuid(u128),
-    Moment(i64),
-    Opaque,
-}
-
-/// A value with its text on loan.
-pub fn lend(value: &Value) -> LentValue<'_>
-    ensures { value_of result ≡ value.now }
-{
-    match value {
-        Value::Null => LentValue::Null,
-        Value::Int(n) => LentValue::Int(*n),
-        Value::Text(text) => LentValue::Text(text.get()),
-        Value::Bool(b) => LentValue::Bool(*b),
-        Value::Uuid(n) => LentValue::Uuid(*n),
-        Value::Moment(n) => LentValue::Moment(*n),
-        Value::Opaque => LentValue::Opaque,
-    }
-}
 
 /// The order of two values on loan, which is that of the values.
 pub fn order(a: LentValue<'_>, b: LentValue<'_>) -> Option<Ordering>

@@ -1,10 +1,11 @@
 ghost use Rattle.std.specs.Prelude.{◌≡◌};
-ghost use Rattle.rt_policy.specs.Lent.{value_of};
+ghost use Rattle.rt_value.specs.Lent.{value_of};
 ghost use Rattle.rt_policy.specs.Truth.{truth_in, worth_of_truth, is_true as is_so, not_of};
 ghost use Rattle.rt_policy.specs.Truth.{and_of, or_of, agrees, compared, is_tested};
 
-use crate::lent::{LentValue, order};
+use crate::lent::order;
 use crate::{Comparison, Tested, Truth};
+use rt_value::LentValue;
 use std::cmp::Ordering;
 
 /// A value as a truth; one that isn't a truth value is unknown.

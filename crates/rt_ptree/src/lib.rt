@@ -12,7 +12,9 @@ mod node;
 mod part;
 mod parts;
 mod sharing;
+mod sought;
 mod tree;
 
 pub use sharing::trees_may_be_shared;
+pub use sought::Sought;
 pub use tree::{Entries, Tree};

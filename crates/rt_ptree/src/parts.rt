@@ -7,6 +7,7 @@ ghost use Rattle.rt_ptree.specs.Pieces.{pieces_list};
 
 use crate::change::Change;
 use crate::part::{Part, Pieces};
+use crate::sought::Sought;
 use std::alloc::{AllocError, Global};
 use std::sync::Arc;
 
@@ -21,17 +22,17 @@ fn step(parts: usize) -> usize
 }
 
 // Where the key belongs: at the last part that does not begin above it, or else at the first part.
-pub fn place<K: Ord, V, C: Part<K, V>>(parts: &[C], key: &K) -> usize
+pub fn place<K: Ord, V, C: Part<K, V>, Q: Sought<K>>(parts: &[C], key: &Q) -> usize
     requires { IsOrderly K.cmp C.entries C.is_fit parts.now }
     ensures within { result < length parts.now }
-    ensures below { IsBelow K.cmp (flat_map C.entries (take result parts.now)) key.now }
-    ensures above { IsAbove K.cmp (flat_map C.entries (drop (result + 1) parts.now)) key.now }
+    ensures below { IsBelow K.cmp (flat_map C.entries (take result parts.now)) (Q.stands_for key.now) }
+    ensures above { IsAbove K.cmp (flat_map C.entries (drop (result + 1) parts.now)) (Q.stands_for key.now) }
 {
     let mut low = 0;
     let mut high = parts.len();
     while high - low > 1 {
         let middle = low + step(high - low);
-        if key.cmp(parts[middle].least()).is_lt() {
+        if key.order(parts[middle].least()).is_lt() {
             high = middle;
         } else {
             low = middle;

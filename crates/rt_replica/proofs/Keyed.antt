@@ -6,9 +6,10 @@ use Rattle.std.specs.BTreeMap.{insert_entry, is_at}
 use Rattle.std.specs.List.{AllByRecursion, list_all}
 use Rattle.std.specs.List.Sorted.{IsStrictlySortedBy}
 use Rattle.std.specs.Map.{keys_of}
-use Rattle.std.specs.Ordering.{is_eq, is_lt, match_ordering}
+use Rattle.std.specs.Ordering.{is_eq, is_le, is_lt, match_ordering}
 use Rattle.std.proofs.lemmas.Cmp.{eq_by_cmp_equiv}
 use Rattle.rt_ptree.specs.Entries.{IsRising, value_at, entry_after, without_key}
+use Rattle.rt_ptree.specs.Walk.{entries_from}
 use Rattle.rt_ptree.proofs.Order.{IsRising-insert, IsRising-without}
 use Rattle.rt_ptree.proofs.Updates.{Updates-insert, Updates-without}
 use Rattle.rt_value.specs.declared.row.Key.{Key}
@@ -16,6 +17,7 @@ use Rattle.rt_value.specs.declared.row.Row.{Row}
 use Rattle.rt_value.specs.declared.edit.Edit.TheVariants.{Remove}
 use Rattle.rt_value.specs.Order.{key_cmp, same_key}
 use Rattle.rt_value.specs.TotalOrder.{key_total}
+use Rattle.rt_value.specs.Prefix.{rows_onward}
 use Rattle.rt_value.specs.Rows.{is_after, is_rising, row_at, rows_behind, rows_with, rows_without}
 use Rattle.rt_value.proofs.EditedRows.{edited_rises, with_rises, with_at, others_with, without_at, others_without}
 use Rattle.rt_value.proofs.SameRows.{same_rows}
@@ -47,6 +49,18 @@ behind-rows q (e ∷ es) h =
         (λ e. e.1) (cond b (Some e) (entry_after key_cmp es q))
     by true more = refl
     by false more = more
+
+onward_at : (q : Key) (e : Key × Row) (es : List (Key × Row)) (b : Bool) → rows_onward q (rows_of es) ≡ rows_of (entries_from key_cmp es q)
+    → cond b (e.1 ∷ rows_onward q (rows_of es)) (rows_onward q (rows_of es)) ≡ rows_of (cond b (e ∷ entries_from key_cmp es q) (entries_from key_cmp es q))
+onward_at q e es true more = ap (λ rows. e.1 ∷ rows) more
+onward_at q e es false more = more
+
+-- the rows with no lesser key than q, of the entries with none
+pub onward-rows : (q : Key) (es : List (Key × Row)) → AllKeyed es → rows_onward q (rows_of es) ≡ rows_of (entries_from key_cmp es q)
+onward-rows q [] h = refl
+onward-rows q (e ∷ es) h =
+    ap (λ k. cond (is_le (key_cmp q k)) (e.1 ∷ rows_onward q (rows_of es)) (rows_onward q (rows_of es))) (sym h.0)
+    ∙ onward_at q e es (is_le (key_cmp q e.0)) (onward-rows q es h.1)
 
 all_after : (k : Key) (es : List (Key × Row)) → AllKeyed es → AllByRecursion (λ y. key_cmp k y ≡ Less) (keys_of es)
     → list_all (is_after k) (rows_of es) ≡ true

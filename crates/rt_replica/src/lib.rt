@@ -2,6 +2,7 @@
 #![tactic(auto)]
 
 pub mod laws;
+mod lent_key;
 mod sharing;
 mod table;
 mod tables;

@@ -4,10 +4,13 @@ ghost use Rattle.std.specs.BTreeMap.{insert_entry};
 ghost use Rattle.std.specs.Option.{option_copied};
 ghost use Rattle.rt_value.specs.Order.{key_cmp};
 ghost use Rattle.rt_value.specs.Edits.{edited_rows, filled, old_values, row_of, rows_unmoved};
+ghost use Rattle.rt_value.specs.Lent.{key_of};
+ghost use Rattle.rt_value.specs.Prefix.{rows_onward};
 ghost use Rattle.rt_value.specs.Rows.{is_rising, row_at, rows_behind, rows_with, rows_without, values_at};
 
+use crate::lent_key::LentKey;
 use rt_ptree::Tree;
-use rt_value::{Cells, Edit, Key, Row, Value, fill};
+use rt_value::{Cells, Edit, Key, LentValue, Row, Value, fill};
 use std::alloc::{AllocError, Global};
 use std::marker::Model;
 use std::sync::Arc;
@@ -78,6 +81,16 @@ impl Table {
         ensures { option_copied result ≡ slice_get (rows_behind key.now self.now) 0 }
     {
         match self.rows.after(key) {
+            Some((_, row)) => Some(row),
+            None => None,
+        }
+    }
+
+    /// The row with the least key that isn't less than the values.
+    pub fn first_from(&self, values: &[LentValue<'_>]) -> Option<&Row>
+        ensures { option_copied result ≡ slice_get (rows_onward (key_of values.now) self.now) 0 }
+    {
+        match self.rows.entries_from(&LentKey { values }).next() {
             Some((_, row)) => Some(row),
             None => None,
         }

@@ -7,7 +7,7 @@ ghost use Rattle.rt_value.specs.Tables.{rows_of_table};
 ghost use Rattle.rt_replica.specs.Changed.{changed_at, count_rows};
 
 use crate::table::Table;
-use rt_value::{Db, Edit, Key, Row};
+use rt_value::{Db, Edit, Key, LentValue, Row};
 use std::alloc::{AllocError, Global};
 use std::marker::Model;
 
@@ -137,6 +137,13 @@ impl Db for Tables {
         match self.tables.get(table as usize) {
             None => None,
             Some(rows) => rows.after(key),
+        }
+    }
+
+    fn first_from(&self, table: u32, values: &[LentValue<'_>]) -> Option<&Row> {
+        match self.tables.get(table as usize) {
+            None => None,
+            Some(rows) => rows.first_from(values),
         }
     }
 }

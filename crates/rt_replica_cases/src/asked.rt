@@ -1,6 +1,8 @@
+ghost use Rattle.std.specs.Iterator.{IsFinite};
+
 use crate::edits::{key, table};
 use rt_replica::Tables;
-use rt_value::{Row, Value, rows_in};
+use rt_value::{LentValue, Row, Value, lend, rows_in, rows_with};
 use std::alloc::{AllocError, Global};
 use std::io;
 
@@ -34,9 +36,15 @@ fn push_values(alloc: Global, shown: &mut String, values: &[Value]) -> Result<()
 }
 
 // The key and the values of each row.
-fn walk(alloc: Global, tables: &Tables, table: u32) -> Result<String, AllocError> {
+fn walk<'a, I: Iterator<Item = &'a Row> + Drop>(
+    alloc: Global,
+    rows: I,
+) -> Result<String, AllocError>
+    requires can { I.can_next rows }
+    requires ends { IsFinite (I.remaining rows) }
+{
     let mut shown = String::new(alloc);
-    for row in rows_in(tables, table) {
+    for row in rows {
         if !shown.is_empty() {
             shown.push_str(" ")?;
         }
@@ -48,6 +56,16 @@ fn walk(alloc: Global, tables: &Tables, table: u32) -> Result<String, AllocError
         shown.push_str("none")?;
     }
     Ok(shown)
+}
+
+// The rows whose key begins with that of the words.
+fn walk_with(alloc: Global, tables: &Tables, table: u32, words: &str) -> io::Result<String> {
+    let key = key(alloc, words)?;
+    let mut values = Vec::<LentValue<'_>>::new(alloc);
+    for value in key.values.get() {
+        values.push(lend(value))?;
+    }
+    Ok(walk(alloc, rows_with(tables, table, &values))?)
 }
 
 fn row_shown(alloc: Global, row: Option<&Row>) -> Result<String, AllocError> {
@@ -68,7 +86,8 @@ pub fn answer(alloc: Global, tables: &Tables, call: &str) -> io::Result<Option<S
             let row = tables.get(table(number)?, &key);
             Ok(Some(row_shown(alloc, row)?))
         }
-        ["walk", number] => Ok(Some(walk(alloc, tables, table(number)?)?)),
+        ["walk", number] => Ok(Some(walk(alloc, rows_in(tables, table(number)?))?)),
+        ["with", number, words] => Ok(Some(walk_with(alloc, tables, table(number)?, words)?)),
         ["rows"] => {
             let rows = tables.rows();
             Ok(Some(format!(in alloc; "{rows}")?))

@@ -1,5 +1,5 @@
 -- Facts on tests and options that several crates cite.
-use Rattle.std.proofs.Common.{◌≡◌, List, ℕ, Bool, true, false, not, ◌||◌, Option, Some, None, option_map, refl, sym}
+use Rattle.std.proofs.Common.{◌≡◌, Bool, true, false, not, ◌||◌, Option, Some, None, option_map, refl, sym}
 use Rattle.std.specs.Str.{all_ascii_digits}
 use Rattle.std.specs.Str.Parse.{digits_value}
 use Rattle.std.proofs.lemmas.Str.Parse.{IsNumeralModel, numerals_by_value, tells_all_ascii_digits}

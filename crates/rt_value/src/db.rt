@@ -1,9 +1,11 @@
 ghost use Rattle.std.specs.Prelude.{◌≡◌, true, ℕ, List, slice_get};
 ghost use Rattle.std.specs.Option.{option_copied};
+ghost use Rattle.rt_value.specs.Lent.{key_of};
+ghost use Rattle.rt_value.specs.Prefix.{rows_onward};
 ghost use Rattle.rt_value.specs.Rows.{rows_behind, is_rising};
 ghost use Rattle.rt_value.specs.declared.row.Row.{Row};
 
-use crate::{Key, Row};
+use crate::{Key, LentValue, Row};
 use std::marker::Model;
 
 /// Tables of rows, each of which is walked in the order of the keys.
@@ -18,6 +20,11 @@ pub trait Db {
     /// The row with the least key that is greater than `key`; `None` where there is none.
     fn after(&self, table: u32, key: &Key) -> Option<&Row>
         ensures { option_copied result ≡ slice_get (rows_behind key.now (rows self.now table)) 0 };
+
+    /// The row with the least key that isn't less than the values: a key, or the first values of keys.
+    /// `None` where there is none.
+    fn first_from(&self, table: u32, values: &[LentValue<'_>]) -> Option<&Row>
+        ensures { option_copied result ≡ slice_get (rows_onward (key_of values.now) (rows self.now table)) 0 };
 
     // The keys of a table rise strictly.
     ghost rising: { (db : Self) (table : ℕ) → is_rising (rows db table) ≡ true };

@@ -2,8 +2,8 @@ ghost use Rattle.std.specs.Prelude.{◌≡◌, true};
 ghost use Rattle.std.specs.List.{list_all};
 ghost use Rattle.rt_value.specs.Rows.{is_rising};
 
-use crate::rising::{all_rise, first_behind};
-use crate::{Db, Key, List, Row};
+use crate::rising::{all_rise, first_behind, first_onward};
+use crate::{Db, Key, LentValue, List, Row};
 
 /// Tables in memory: the rows of each, in the order of their keys.
 #[derive(Debug, Drop)]
@@ -48,6 +48,13 @@ impl Db for SortedTables {
         match self.tables.get().get(table as usize) {
             None => None,
             Some(rows) => first_behind(rows.get(), key),
+        }
+    }
+
+    fn first_from(&self, table: u32, values: &[LentValue<'_>]) -> Option<&Row> {
+        match self.tables.get().get(table as usize) {
+            None => None,
+            Some(rows) => first_onward(rows.get(), values),
         }
     }
 }

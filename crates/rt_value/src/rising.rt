@@ -1,8 +1,11 @@
 ghost use Rattle.std.specs.Prelude.{◌≡◌, slice_get};
 ghost use Rattle.std.specs.List.{list_all};
 ghost use Rattle.std.specs.Option.{option_copied};
+ghost use Rattle.rt_value.specs.Lent.{key_of};
+ghost use Rattle.rt_value.specs.Prefix.{rows_onward};
 ghost use Rattle.rt_value.specs.Rows.{rows_behind, is_after, is_rising};
 
+use crate::lent::{LentValue, order_key};
 use crate::{Key, List, Row};
 
 /// The first row with a greater key.
@@ -11,6 +14,18 @@ pub fn first_behind<'a>(rows: &'a [Row], key: &Key) -> Option<&'a Row>
 {
     for row in rows {
         if *key < row.key {
+            return Some(row);
+        }
+    }
+    None
+}
+
+/// The first row whose key isn't less than the values.
+pub fn first_onward<'a>(rows: &'a [Row], values: &[LentValue<'_>]) -> Option<&'a Row>
+    ensures { option_copied result ≡ slice_get (rows_onward (key_of values.now) rows.now) 0 }
+{
+    for row in rows {
+        if order_key(values, &row.key).is_le() {
             return Some(row);
         }
     }

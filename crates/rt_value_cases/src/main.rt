@@ -31,7 +31,7 @@ fn answer_text(alloc: Global, case: &str) -> io::Result<String> {
         "copy" => copies::row(alloc, given),
         "claims" => copies::claims(alloc, given),
         "shared" => copies::shared(alloc, given),
-        "first" | "after" | "walk" => rows::answer(alloc, question, given),
+        "first" | "after" | "walk" | "with" => rows::answer(alloc, question, given),
         _ => edits::answer(alloc, question, given),
     }
 }

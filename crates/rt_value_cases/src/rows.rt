@@ -1,12 +1,15 @@
-use rt_value::{Db, Key, List, Row, SortedTables, Text, Value, rows_in};
+use rt_value::{
+    Db, Key, LentValue, List, Row, SortedTables, Text, Value, lend, rows_in, rows_with,
+};
 use std::alloc::{AllocError, Global};
 use std::fmt::Write;
 use std::io;
 
-/// What a table of several has: its first row, the row after a key, or all its rows.
+/// What a table of several has: its first row, the row after a key, all its rows, or those whose key
+/// begins with given numbers.
 ///
 /// `first 1; / 2=a 3=b`, where `/` separates the tables, which count from 0; `after 1 2; / 2=a 3=b`;
-/// `walk 1; / 2=a 3=b`.
+/// `walk 1; / 2=a 3=b`; `with 0 2; 1.7=a 2.1=b 2.3=c`, keys of two numbers. No number is `-`.
 pub fn answer(alloc: Global, question: &str, given: &str) -> io::Result<String> {
     let Some((place, tables)) = given.split_once(';') else {
         return Err(io::ErrorKind::InvalidInput.into());
@@ -17,6 +20,7 @@ pub fn answer(alloc: Global, question: &str, given: &str) -> io::Result<String> 
     match question {
         "first" => row_or_none(alloc, tables.first(table_in(place)?)),
         "after" => after(alloc, &tables, place),
+        "with" => with(alloc, &tables, place),
         _ => walked(alloc, &tables, table_in(place)?),
     }
 }
@@ -27,6 +31,29 @@ fn after(alloc: Global, tables: &SortedTables, place: &str) -> io::Result<String
     };
     let key = key_in(alloc, key)?;
     row_or_none(alloc, tables.after(table_in(table)?, &key))
+}
+
+fn with(alloc: Global, tables: &SortedTables, place: &str) -> io::Result<String> {
+    let Some((table, numbers)) = place.split_once(' ') else {
+        return Err(io::ErrorKind::InvalidInput.into());
+    };
+    let table = table_in(table)?;
+    let key = if numbers.trim() == "-" {
+        Key {
+            values: List::new(Vec::new(alloc)),
+        }
+    } else {
+        key_in(alloc, numbers)?
+    };
+    let mut values = Vec::<LentValue<'_>>::new(alloc);
+    for value in key.values.get() {
+        values.push(lend(value))?;
+    }
+    let mut answer = String::new(alloc);
+    for row in rows_with(tables, table, &values) {
+        push_row(&mut answer, row)?;
+    }
+    Ok(answer)
 }
 
 fn row_or_none(alloc: Global, row: Option<&Row>) -> io::Result<String> {
@@ -70,12 +97,13 @@ pub fn rows_of(alloc: Global, text: &str) -> io::Result<Vec<Row>> {
     Ok(rows)
 }
 
-/// A row of two columns, whose key is the first.
+/// A row whose key are the columns before its name.
 pub fn row_of(alloc: Global, word: &str) -> io::Result<Row> {
     let Some((key, name)) = word.split_once('=') else {
         return Err(io::ErrorKind::InvalidInput.into());
     };
-    let values = vec![in alloc; Value::Int(number_in(key)?), name_of(alloc, name)?]?;
+    let mut values = numbers_in(alloc, key)?;
+    values.push(name_of(alloc, name)?)?;
     Ok(Row {
         key: key_in(alloc, key)?,
         values: List::new(values),
@@ -89,10 +117,19 @@ fn name_of(alloc: Global, name: &str) -> Result<Value, AllocError> {
     }
 }
 
-/// A key of one whole number.
+/// A key of whole numbers, as `3` or `3.-1`.
 pub fn key_in(alloc: Global, word: &str) -> io::Result<Key> {
-    let values = List::new(vec![in alloc; Value::Int(number_in(word)?)]?);
-    Ok(Key { values })
+    Ok(Key {
+        values: List::new(numbers_in(alloc, word)?),
+    })
+}
+
+fn numbers_in(alloc: Global, word: &str) -> io::Result<Vec<Value>> {
+    let mut numbers = Vec::new(alloc);
+    for number in word.split('.') {
+        numbers.push(Value::Int(number_in(number)?))?;
+    }
+    Ok(numbers)
 }
 
 /// A whole number.
@@ -108,7 +145,7 @@ pub fn push_row(answer: &mut String, row: &Row) -> Result<(), AllocError> {
     if !answer.is_empty() {
         answer.push(' ')?;
     }
-    push_first(answer, row.key.values.get())?;
+    push_numbers(answer, row.key.values.get())?;
     answer.push('=')?;
     match row.values.get().last() {
         Some(Value::Text(name)) => answer.push_str(name.get()),
@@ -116,9 +153,15 @@ pub fn push_row(answer: &mut String, row: &Row) -> Result<(), AllocError> {
     }
 }
 
-fn push_first(answer: &mut String, values: &[Value]) -> Result<(), AllocError> {
-    match values.first() {
-        Some(Value::Int(n)) => write!(answer, "{n}"),
-        _ => answer.push('?'),
+fn push_numbers(answer: &mut String, values: &[Value]) -> Result<(), AllocError> {
+    for (at, value) in values.iter().enumerate() {
+        if at > 0 {
+            answer.push('.')?;
+        }
+        match value {
+            Value::Int(n) => write!(answer, "{n}")?,
+            _ => answer.push('?')?,
+        }
     }
+    Ok(())
 }

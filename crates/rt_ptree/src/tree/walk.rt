@@ -8,6 +8,7 @@ use crate::entry::Entry;
 use crate::node::Node;
 use crate::part::Part;
 use crate::parts::place;
+use crate::sought::Sought;
 use std::marker::Model;
 use std::sync::Arc;
 
@@ -38,13 +39,14 @@ impl<'a, K: Ord, V> Model for Entries<'a, K, V> {
 }
 
 // The parts of the node at the key's place, and the nodes behind it.
-fn opened<'a, K: Ord + Drop, V, C: Part<K, V>>(
+fn opened<'a, K: Ord + Drop, V, C: Part<K, V>, Q: Sought<K>>(
     nodes: &'a [Arc<Node<K, C>>],
-    key: &K,
+    key: &Q,
 ) -> (&'a [C], &'a [Arc<Node<K, C>>])
     requires { IsOrderly K.cmp (node_list C.entries) (IsFitNode C.MOST C.entries C.is_fit) nodes.now }
-    ensures from { entries_from K.cmp (flat_map (node_list C.entries) nodes.now) key.now
-        ≡ entries_from K.cmp (flat_map C.entries result.0.now) key.now ++ flat_map (node_list C.entries) result.1.now }
+    ensures from { entries_from K.cmp (flat_map (node_list C.entries) nodes.now) (Q.stands_for key.now)
+        ≡ entries_from K.cmp (flat_map C.entries result.0.now) (Q.stands_for key.now)
+        ++ flat_map (node_list C.entries) result.1.now }
     ensures parts { IsOrderly K.cmp C.entries C.is_fit result.0.now }
     ensures nodes { All (IsFitNode C.MOST C.entries C.is_fit) result.1.now }
 {
@@ -53,21 +55,28 @@ fn opened<'a, K: Ord + Drop, V, C: Part<K, V>>(
 }
 
 // Of a leaf, the entries whose keys are not below the key.
-fn leaf_from<'a, K: Ord + Drop, V: Drop>(entries: &'a [Entry<K, V>], key: &K) -> &'a [Entry<K, V>]
+fn leaf_from<'a, K: Ord + Drop, V: Drop, Q: Sought<K>>(
+    entries: &'a [Entry<K, V>],
+    key: &Q,
+) -> &'a [Entry<K, V>]
     requires { IsOrderly K.cmp entry_list (λ _. Unit {0}) entries.now }
-    ensures { flat_map entry_list result.now ≡ entries_from K.cmp (flat_map entry_list entries.now) key.now }
+    ensures { flat_map entry_list result.now
+        ≡ entries_from K.cmp (flat_map entry_list entries.now) (Q.stands_for key.now) }
 {
     let at = place(entries, key);
-    if key.cmp(&entries[at].key).is_le() {
+    if key.order(&entries[at].key).is_le() {
         &entries[at..]
     } else {
         &entries[at + 1..]
     }
 }
 
-fn entries_in<'a, K: Ord + Drop, V: Drop>(limbs: &'a [Limb<K, V>], key: &K) -> Entries<'a, K, V>
+fn entries_in<'a, K: Ord + Drop, V: Drop, Q: Sought<K>>(
+    limbs: &'a [Limb<K, V>],
+    key: &Q,
+) -> Entries<'a, K, V>
     requires { IsOrderly K.cmp limb_list IsFitLimb limbs.now }
-    ensures { result ≡ entries_from K.cmp (flat_map limb_list limbs.now) key.now }
+    ensures { result ≡ entries_from K.cmp (flat_map limb_list limbs.now) (Q.stands_for key.now) }
 {
     let (branches, limbs) = opened(limbs, key);
     let (leaves, branches) = opened(branches, key);
@@ -82,8 +91,9 @@ fn entries_in<'a, K: Ord + Drop, V: Drop>(limbs: &'a [Limb<K, V>], key: &K) -> E
 
 impl<K: Ord + Drop, V: Drop> Tree<K, V> {
     /// The entries whose keys are not below `key`, which need not be there itself, in the order of their keys.
-    pub fn entries_from(&self, key: &K) -> Entries<'_, K, V>
-        ensures { result ≡ entries_from K.cmp self.now key.now }
+    /// It may be a key, or whatever stands for one.
+    pub fn entries_from<Q: Sought<K>>(&self, key: &Q) -> Entries<'_, K, V>
+        ensures { result ≡ entries_from K.cmp self.now (Q.stands_for key.now) }
     {
         match &self.limbs {
             Some(limbs) => entries_in(limbs, key),

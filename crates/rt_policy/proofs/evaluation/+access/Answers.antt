@@ -3,7 +3,7 @@ use Rattle.std.specs.Option.{option_copied, option_or}
 use Rattle.std.specs.List.{position_from}
 use Rattle.rt_policy.specs.declared.joining.Joining.TheVariants.{And, Or, EqualTo}
 use Rattle.rt_policy.specs.declared.judge.Judge.{Judge}
-use Rattle.rt_policy.specs.Lent.{value_of}
+use Rattle.rt_value.specs.Lent.{value_of}
 use Rattle.rt_policy.specs.Joining.{joined, combined, truth_by}
 use Rattle.rt_policy.specs.Truth.{worth_of_truth, one_of, all_of, any_of}
 use Rattle.rt_policy.specs.Worth.{who_of, worth, Place}

@@ -7,7 +7,7 @@ use Rattle.rt_ptree.proofs.parts.place.Goals as goal
 pub loop-high-preserved-then-is_lt : goal.loop-high-preserved-then-is_lt
 loop-high-preserved-then-is_lt g c =
     let within : c.loop-high.low + c.step.result < length c.args.parts.now = omega arith in
-    let less : is_lt (g.K.Ord.cmp c.args.key.now (arc_value c.least.result.now)) ≡ true = cc in
+    let less : is_lt (g.K.Ord.cmp (g.Q.Sought.stands_for c.args.key.now) (arc_value c.least.result.now)) ≡ true = cc in
     record {
       apart = omega arith;
       within = omega arith;
@@ -18,7 +18,7 @@ loop-high-preserved-then-is_lt g c =
 pub loop-high-preserved : goal.loop-high-preserved
 loop-high-preserved g c =
     let within : c.loop-high.low + c.step.result < length c.args.parts.now = omega arith in
-    let not_less : is_lt (g.K.Ord.cmp c.args.key.now (arc_value c.least.result.now)) ≡ false = cc in
+    let not_less : is_lt (g.K.Ord.cmp (g.Q.Sought.stands_for c.args.key.now) (arc_value c.least.result.now)) ≡ false = cc in
     record {
       apart = omega arith;
       within = c.loop-high.invariant.within;

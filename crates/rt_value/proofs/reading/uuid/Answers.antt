@@ -1,4 +1,3 @@
-use Rattle.std.proofs.Common.{◌≡◌, true, false, Option, Some, None, option_map, refl}
 use Rattle.rt_value.proofs.Tests.{none_mapped}
 use Rattle.rt_value.proofs.reading.uuid.Goals as goal
 

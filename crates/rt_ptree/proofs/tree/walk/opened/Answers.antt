@@ -7,7 +7,7 @@ use Rattle.rt_ptree.proofs.tree.walk.opened.Goals as goal
 
 pub returns-clause-from : goal.returns-clause-from
 returns-clause-from g c =
-    let at = entries_from-at g.K.Ord.cmp c.args.key.now (node_list g.C.Part.entries) _ _ _ c.place-at.ensures.within c.index-nodes-at.is c.place-at.ensures.below c.place-at.ensures.above in
+    let at = entries_from-at g.K.Ord.cmp (g.Q.Sought.stands_for c.args.key.now) (node_list g.C.Part.entries) _ _ _ c.place-at.ensures.within c.index-nodes-at.is c.place-at.ensures.below c.place-at.ensures.above in
     rw (take_rest c.args.nodes.now (c.place-at.result + 1), c.deref-2.ensures.value, c.deref.ensures) at
 
 pub returns-clause-parts : goal.returns-clause-parts
