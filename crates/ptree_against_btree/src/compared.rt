@@ -39,7 +39,7 @@ pub struct Compared {
 }
 
 impl Compared {
-    pub fn new(alloc: Global) -> Self {
+    pub(crate) fn new(alloc: Global) -> Self {
         Compared {
             alloc,
             tree: Tree::new(alloc),
@@ -55,15 +55,15 @@ impl Compared {
         }
     }
 
-    pub fn counts(&self) -> Counts {
+    pub(crate) fn counts(&self) -> Counts {
         self.counts
     }
 
-    pub fn len(&self) -> usize {
+    pub(crate) fn len(&self) -> usize {
         self.tree.len()
     }
 
-    pub fn insert(&mut self, key: u32, value: u32) -> Result<(), AllocError> {
+    pub(crate) fn insert(&mut self, key: u32, value: u32) -> Result<(), AllocError> {
         let shared = (Arc::new(self.alloc, key)?, Arc::new(self.alloc, value)?);
         self.tree
             .insert(shared.0, shared.1)
@@ -76,7 +76,7 @@ impl Compared {
         Ok(())
     }
 
-    pub fn remove(&mut self, key: u32) -> Result<(), AllocError> {
+    pub(crate) fn remove(&mut self, key: u32) -> Result<(), AllocError> {
         let was_there = self.tree.remove(&key)?;
         let was_in_map = self.map.remove(&key).is_some();
         self.note(was_there == was_in_map);
@@ -90,18 +90,18 @@ impl Compared {
     }
 
     /// Compares what the two have at the key.
-    pub fn look_up(&mut self, key: u32) {
+    pub(crate) fn look_up(&mut self, key: u32) {
         let same = self.tree.get(&key).copied() == self.map.get(&key).copied();
         self.note(same);
     }
 
     /// Compares the walks from the key on.
-    pub fn walk_from(&mut self, from: u32) {
+    pub(crate) fn walk_from(&mut self, from: u32) {
         let same = has_rest(&self.tree, &self.map, from);
         self.note(same);
     }
 
-    pub fn take_snapshot(&mut self) -> Result<(), AllocError> {
+    pub(crate) fn take_snapshot(&mut self) -> Result<(), AllocError> {
         let snapshot = self.tree.snapshot()?;
         let entries = entries_of(self.alloc, &self.map)?;
         self.kept.push(Kept { snapshot, entries })?;
@@ -109,7 +109,7 @@ impl Compared {
     }
 
     /// Walks each snapshot against what the map held when it was taken.
-    pub fn walk_snapshots(&self) -> Walked {
+    pub(crate) fn walk_snapshots(&self) -> Walked {
         let mut walked = Walked {
             snapshots: self.kept.len(),
             entries: 0,
@@ -125,7 +125,7 @@ impl Compared {
     }
 
     /// Whether a walk of the tree gives the entries of the map.
-    pub fn is_same(&self) -> Result<bool, AllocError> {
+    pub(crate) fn is_same(&self) -> Result<bool, AllocError> {
         let entries = entries_of(self.alloc, &self.map)?;
         Ok(holds(&self.tree, &entries))
     }

@@ -17,7 +17,7 @@ fn push_keys(shown: &mut String, alloc: Global, tree: &Tree<u32, u32>) -> Result
 }
 
 /// The keys 1, 2 and 3, of which a snapshot is taken; then 2 goes and 4 comes.
-pub fn example(alloc: Global) -> Result<String, AllocError> {
+pub(crate) fn example(alloc: Global) -> Result<String, AllocError> {
     let mut tree = Tree::new(alloc);
     for key in [1, 2, 3] {
         insert(&mut tree, alloc, key)?;

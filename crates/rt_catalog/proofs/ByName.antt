@@ -14,7 +14,8 @@ use Rattle.rt_catalog.specs.Lists.{column_number, column_of_table, number_or_non
 use Rattle.rt_catalog.specs.Kept.{name_of_table, row_of}
 use Rattle.rt_catalog.specs.Sound.{same_table, IsSoundTable, IsGrantOf, IsMembershipOf, IsSound}
 use Rattle.rt_catalog.proofs.Found.{bind_some, all_get, number_at, number_within, number_back, named, numbered, name_at}
-use Rattle.rt_catalog.proofs.Found.{equal_bytes, bytes_itself}
+use Rattle.rt_policy.proofs.Classes.{equal_bytes}
+use Rattle.rt_catalog.proofs.Found.{bytes_itself}
 
 abbrev column_name : Column → List ℕ
 column_name c = c.name

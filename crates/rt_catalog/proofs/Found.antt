@@ -7,6 +7,7 @@ use Rattle.std.specs.Str.{bytes_eq}
 use Rattle.std.proofs.lemmas.Option.{slice_get_within}
 use Rattle.std.proofs.lemmas.Slice.Eq.{bytes_eq-Decides}
 use Rattle.rt_value.specs.Choice.{◌>>=◌}
+use Rattle.rt_policy.proofs.Classes.{equal_bytes}
 use Rattle.rt_catalog.specs.Access.{number_where}
 use Rattle.rt_catalog.specs.Lists.{number_or_none}
 use Rattle.rt_catalog.specs.Sound.{IsWithin}
@@ -96,9 +97,6 @@ pub number_back : {A : Type 0} (same : A → A → Bool) (xs : List A) (n : ℕ)
 number_back {A} same xs n x apart at itself =
     ap (λ (o : Option (ℕ × A)). option_map (λ e. e.0) o) (same_found same 0 xs n x apart at itself)
     ∙ ap (λ k. Some k) (let z : 0 + n ≡ n = omega arith in z)
-
-pub equal_bytes : (a b : List ℕ) → bytes_eq a b ≡ true → a ≡ b
-equal_bytes a b = (bytes_eq-Decides a b).0
 
 pub bytes_itself : (a : List ℕ) → bytes_eq a a ≡ true
 bytes_itself a = (bytes_eq-Decides a a).1 refl

@@ -2,12 +2,9 @@
 use Rattle.std.proofs.Common.{◌≡◌, ℕ, ◌+◌, Bool, true, false, List, [], ◌∷◌, Option, Some, None, Result, Ok, Err, refl}
 use Rattle.std.proofs.Common.{sym, ◌∙◌, subst}
 use Rattle.rt_lines.specs.Lines.{is_passed_over, lines_of}
+use Rattle.rt_lines.proofs.Either.{either}
 use Rattle.rt_cluster_script.specs.Script.{State, start, Reads, passed, read, unread, Ends, at_end, refused, goes_on}
 use Rattle.rt_cluster_script.specs.Script.{Shows, Refuses}
-
-either : {A : Type 0} (b : Bool) → b ≡ true → b ≡ false → A
-either true e f = absurd cc
-either false e f = absurd cc
 
 pub reads_once : (st : State) (line : List ℕ) (a b : Option State) → Reads st line a → Reads st line b → a ≡ b
 reads_once st line a b (passed e) (passed f) = refl

@@ -3,7 +3,7 @@ use Rattle.std.proofs.Common.{◌≡◌, ℕ, [], ◌∷◌, Option, Some, Resul
 use Rattle.rt_value.specs.declared.claims.Claims.{Claims}
 use Rattle.rt_wal.specs.declared.records.Record.{Record}
 use Rattle.rt_wal.specs.Records.{IsRecordText}
-use Rattle.rt_wal.proofs.OneRecord.{record_once}
+use Rattle.rt_wal.proofs.OneRecord.{record_once, same_value}
 use Rattle.rt_phx.specs.declared.message.Version.TheVariants.{V1}
 use Rattle.rt_catalog.specs.declared.catalog.Catalog.{Catalog}
 use Rattle.rt_change.specs.declared.change.Change.{Change}
@@ -13,9 +13,6 @@ use Rattle.rt_change.specs.declared.fault.ChangeFault.{ChangeFault}
 use Rattle.rt_change.specs.Binding.{change_of}
 use Rattle.rt_entry.specs.declared.input.Input.TheVariants.{Opened, Frame, Poll}
 use Rattle.rt_first.specs.First.{InputsAreOne}
-
-same_value : {A : Type 0} (x y : A) (o : Option A) → o ≡ Some x → o ≡ Some y → x ≡ y
-same_value x y o e f = let both : Some x ≡ Some y = sym e ∙ f in cc
 
 change_once : (c : Catalog) (a b : Record) (x y : Change) → a ≡ b
     → change_of c a ≡ Ok (bound.Change x) → change_of c b ≡ Ok (bound.Change y) → x ≡ y

@@ -23,4 +23,6 @@ pub use reading::{one_fault, one_tree, read};
 pub use sharing::trees_may_be_shared;
 pub use tree::Json;
 pub use tree::named::Member;
-pub use writing::{write, write_behind, write_text_behind, written_again, written_by_parts};
+pub use writing::{
+    write, write_behind, write_comma, write_text_behind, written_again, written_by_parts,
+};

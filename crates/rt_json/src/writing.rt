@@ -84,8 +84,13 @@ pub fn write_text_behind(bytes: &mut Vec<u8>, text: &str) -> Result<(), AllocErr
     }
 }
 
-fn write_comma(out: &mut Vec<u8>, at: usize) -> Result<(), AllocError>
-    ensures { OnOk result (out.new.items ≡ out.old.items ++ comma_before at) }
+/// Writes the comma that stands before an item at this place of a list or an object, which is none
+/// before the first.
+///
+/// Fails for want of memory alone, and then leaves the bytes as they were.
+pub fn write_comma(out: &mut Vec<u8>, at: usize) -> Result<(), AllocError>
+    ensures ok { OnOk result (out.new.items ≡ out.old.items ++ comma_before at) }
+    ensures err { OnErr result (out.new.items ≡ out.old.items) }
 {
     if at > 0 {
         out.push(b',')?;

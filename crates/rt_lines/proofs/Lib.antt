@@ -1,2 +1,3 @@
 mod Cut
+pub mod Either
 mod Numbers

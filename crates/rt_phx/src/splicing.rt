@@ -1,7 +1,7 @@
 //! The spelling of a change whose shown tree is spelled already, put together from pieces.
 ghost use Rattle.std.specs.Prelude.{◌≡◌, ◌++◌, ◌∷◌, [], IfOk, OnOk, codes, ℕ, List};
 ghost use Rattle.std.specs.Fmt.{decimal};
-ghost use Rattle.rt_json.specs.Written.{written, quoted, listed, comma_before};
+ghost use Rattle.rt_json.specs.Written.{written, quoted, listed};
 ghost use Rattle.rt_json.specs.declared.tree.Json.{Json};
 ghost use Rattle.rt_phx.specs.Frame.{spelled};
 ghost use Rattle.rt_phx.specs.Says.{said_on, change_payload};
@@ -10,7 +10,7 @@ ghost use Rattle.rt_phx.specs.declared.message.Version.{Version};
 
 use crate::encoding::{with_str, with_text, with_tree};
 use crate::message::Version;
-use rt_json::Json;
+use rt_json::{Json, write_comma};
 use rt_value::{Bytes, Text};
 use std::alloc::{AllocError, Global};
 
@@ -19,15 +19,6 @@ fn write_number(alloc: Global, out: &mut Vec<u8>, number: u64) -> Result<(), All
 {
     let digits = format!(in alloc; "{number}")?;
     out.extend_from_slice(digits.as_bytes())
-}
-
-fn write_comma(out: &mut Vec<u8>, at: usize) -> Result<(), AllocError>
-    ensures { OnOk result (out.new.items ≡ out.old.items ++ comma_before at) }
-{
-    if at > 0 {
-        out.push(b',')?;
-    }
-    Ok(())
 }
 
 fn write_ids(alloc: Global, out: &mut Vec<u8>, ids: &[u64]) -> Result<(), AllocError>

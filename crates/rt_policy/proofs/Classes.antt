@@ -20,7 +20,7 @@ use Rattle.rt_policy.specs.declared.words.Sign.TheVariants as sign
 use Rattle.rt_policy.specs.declared.words.Class.{Class}
 use Rattle.rt_policy.specs.declared.words.Class.TheVariants as class
 
-equal_bytes : (a b : List ℕ) → bytes_eq a b ≡ true → a ≡ b
+pub equal_bytes : (a b : List ℕ) → bytes_eq a b ≡ true → a ≡ b
 equal_bytes a b = (bytes_eq-Decides a b).0
 
 -- what is found passes the test, and is one of those looked through

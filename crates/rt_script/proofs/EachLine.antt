@@ -15,6 +15,7 @@ use Rattle.rt_change.specs.Binding.{change_of}
 use Rattle.rt_script.specs.declared.fault.LineWhy.{LineWhy}
 use Rattle.rt_script.specs.declared.fault.LineWhy.TheVariants as why
 use Rattle.rt_lines.specs.Lines.{is_passed_over}
+use Rattle.rt_lines.proofs.Either.{either}
 use Rattle.rt_script.specs.Commands.{Command, spelling, is_setting_word, first_word}
 use Rattle.rt_script.specs.Commands.{workers, capacity, lane, inlet, rows, inputs, max_record_bytes, secret}
 use Rattle.rt_script.specs.Commands.{schedule_manual, token, open_, frame, gone, post, wal, poll, tick, stop, take_}
@@ -24,10 +25,6 @@ use Rattle.rt_script.specs.Reading.{Takes, passes, reads, keeps, Refuses, late, 
 use Rattle.rt_script.proofs.ReadBack.{one_command}
 use Rattle.rt_script.proofs.Bounded.{change_has}
 use Rattle.rt_script.proofs.Lanes.{HasFewLanes, only_record}
-
-either : {A : Type 0} (b : Bool) → b ≡ true → b ≡ false → A
-either true e f = absurd cc
-either false e f = absurd cc
 
 -- no command is a line that is passed over
 told : (k : Command) → is_passed_over (spelling k) ≡ false

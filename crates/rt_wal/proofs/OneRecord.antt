@@ -17,7 +17,8 @@ use Rattle.rt_wal.specs.Shapes.{shape_of, action_in, name_for, shows_row, fields
 use Rattle.rt_wal.specs.Times.{IsMoment, IsTimeAt, IsTimeIn}
 use Rattle.rt_wal.proofs.OneMoment.{moment_once}
 
-same_value : {A : Type 0} (x y : A) (o : Option A) → o ≡ Some x → o ≡ Some y → x ≡ y
+-- what stands in an option is one
+pub same_value : {A : Type 0} (x y : A) (o : Option A) → o ≡ Some x → o ≡ Some y → x ≡ y
 same_value x y o e f = let both : Some x ≡ Some y = sym e ∙ f in cc
 
 none_is_none : {A : Type 0} (x : A) (o : Option A) → o ≡ Some x → o ≡ None → ⊥
