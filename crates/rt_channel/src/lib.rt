@@ -2,8 +2,12 @@
 //! "Channels").
 #![tactic(auto)]
 
+mod answer;
 mod effect;
 mod held;
+mod sharing;
 
+pub use answer::Answer;
 pub use effect::{Effect, Wish};
 pub use held::{Held, Joined};
+pub use sharing::sockets_may_be_shared;

@@ -31,7 +31,7 @@ use Rattle.rt_entry.proofs.Present.{tracks_members}
 use Rattle.rt_entry.proofs.Members.{members_next}
 use Rattle.rt_entry.proofs.Sourced.{IsTrack, sourced, tracks_sourced}
 
-rise_kept : (p : Track → Bool) (low high : ℕ) (ts : List Track)
+pub rise_kept : (p : Track → Bool) (low high : ℕ) (ts : List Track)
     → RiseWithin low (map (λ (t : Track). t.reference) ts) high
     → RiseWithin low (map (λ (t : Track). t.reference) (filter p ts)) high
 rise_kept p low high [] r = r

@@ -38,6 +38,7 @@ use Rattle.rt_channel.specs.Effects.{leave_of, close_of, end_effects, tick_effec
 use Rattle.rt_channel.specs.Effects.{join_result_effects, wished, wish_of, claims_for, renewal_effects, ask_effects}
 use Rattle.rt_channel.specs.Effects.{permitted_effects, judged_effects, channel_effects, message_effects, say_if}
 use Rattle.rt_channel.specs.Effects.{is_as_secured, joined_on, is_joined_on}
+use Rattle.rt_channel.specs.Taken.{join_of}
 use Rattle.rt_entry.specs.declared.input.Settings.{Settings}
 use Rattle.rt_entry.specs.declared.story.Opening.{Opening}
 use Rattle.rt_entry.specs.declared.story.Standing.{Standing}
@@ -54,7 +55,7 @@ use Rattle.rt_entry.specs.Doings.{judged_parts, channel_parts, message_parts, re
 use Rattle.rt_entry.proofs.PlainParts.{none_leave}
 use Rattle.rt_entry.proofs.Shapes.{AreApart, found_one}
 use Rattle.rt_hub.specs.Sockets.{joined_of, held_of}
-use Rattle.rt_hub.specs.Doing.{join_of, renew_at, at_channel, broadcast_at, track_at, untrack_at, channel_of_wish}
+use Rattle.rt_hub.specs.Doing.{renew_at, at_channel, broadcast_at, track_at, untrack_at, channel_of_wish}
 use Rattle.rt_hub.specs.Doing.{standing_by}
 use Rattle.rt_hub.specs.Doing.{parts_of_effect}
 

@@ -1,4 +1,9 @@
 mod Done
 mod Effects
+mod Present
+mod Presented
+mod Put
 mod Registered
 mod Renewing
+mod Rising
+mod Turns

@@ -1,17 +1,15 @@
 -- What the effects of a socket do, by what stands before the input and the tables; and that this is what the journal
 -- says of a frame, a tick and an end.
 use Rattle.std.specs.Prelude.{◌≡◌, ℕ, not, List, [], ◌∷◌, ◌++◌, map, Option, Some, None, option_map, option_to_list}
-use Rattle.std.specs.Prelude.{Ok, Err, Contains, codes, ◌+◌, ◌&&◌, is_none, if◌then◌else◌}
+use Rattle.std.specs.Prelude.{Ok, Err, Contains, ◌+◌, ◌&&◌, is_none, if◌then◌else◌}
 use Rattle.std.specs.List.{filter, enumerate_from}
 use Rattle.rt_value.specs.declared.claims.Claims.{Claims}
 use Rattle.rt_value.specs.declared.row.Row.{Row}
 use Rattle.rt_json.specs.declared.tree.Json.{Json}
 use Rattle.rt_phx.specs.declared.message.Version.{Version}
-use Rattle.rt_phx.specs.declared.message.Message.{Message}
 use Rattle.rt_phx.specs.declared.end.EndName.TheVariants as end_name
 use Rattle.rt_phx.specs.Checked.{Checked, ◌>>◌, demand, told_by}
 use Rattle.rt_phx.specs.Limits.{too_many_channels}
-use Rattle.rt_phx.specs.Frame.{message, no_members}
 use Rattle.rt_phx.specs.Joins.{join_ref_of}
 use Rattle.rt_phx.specs.Asks.{name_in}
 use Rattle.rt_catalog.specs.declared.catalog.Catalog.{Catalog}
@@ -25,6 +23,7 @@ use Rattle.rt_channel.specs.declared.effect.Effect.TheVariants.{Untrack, End}
 use Rattle.rt_channel.specs.declared.effect.Wish.{Wish}
 use Rattle.rt_channel.specs.declared.held.Held.{Held}
 use Rattle.rt_channel.specs.Effects.{effects_of, tick_effects, end_effects}
+use Rattle.rt_channel.specs.Taken.{join_of}
 use Rattle.rt_entry.specs.declared.input.Input.{Input}
 use Rattle.rt_entry.specs.declared.input.Input.TheVariants.{Opened, Frame, Gone, Tick}
 use Rattle.rt_entry.specs.declared.input.Settings.{Settings}
@@ -46,10 +45,6 @@ use Rattle.rt_hub.specs.Sockets.{held_of, socket_of}
 abbrev pub at_channel : (Member → List Part) → Option Member → List Part
 at_channel act None = []
 at_channel act (Some h) = act h
-
--- a wish as the join that it is of
-abbrev pub join_of : Wish → Message
-join_of w = message w.join_ref w.reference w.topic (codes "phx_join") no_members
 
 -- a channel has new claims, or is told why not and closes
 abbrev pub renew_at : Now → List ℕ → Checked Standing → Member → List Part

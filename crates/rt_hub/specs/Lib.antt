@@ -1,3 +1,4 @@
 pub mod Doing
+pub mod Present
 pub mod Registered
 pub mod Sockets

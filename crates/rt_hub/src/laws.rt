@@ -2,7 +2,9 @@
 
 ghost use Rattle.rt_catalog.specs.declared.catalog.Catalog.{Catalog as CatalogData};
 ghost use Rattle.rt_entry.specs.declared.input.Settings.{Settings as SettingsData};
-ghost use Rattle.rt_hub.specs.Registered.{RegistryFollows, SubscriptionsAreKept};
+ghost use Rattle.rt_hub.specs.Present.{JournalsHaveOwnTracks, OwnTracksStay, PresenceFollows};
+ghost use Rattle.rt_hub.specs.Present.{PresenceShows};
+ghost use Rattle.rt_hub.specs.Registered.{MembersFollow, RegistryFollows, SubscriptionsAreKept};
 ghost use Rattle.rt_hub.specs.Doing.{EndsAreDone, FramesAreDone, JournalsAreApart, TicksAreDone};
 
 /// Where a slot has one channel on a topic, as behind every journal, what a frame, a tick and an
@@ -14,10 +16,30 @@ pub fn effects_are_done()
     ensures ends { (c : CatalogData) (s : SettingsData) → EndsAreDone c s }
 {}
 
+/// The members behind an input are those before it, changed by each part of the input in turn.
+pub fn members_follow()
+    ensures { (c : CatalogData) (s : SettingsData) → MembersFollow c s }
+{}
+
 /// What a registry keeps of the members behind an input is what it kept before, changed by each
 /// part of the input in turn: a join adds a channel, a renewal changes its role and claims, a
 /// departure takes it away. Its subscriptions are those of the members.
 pub fn registry_follows()
     ensures kept { SubscriptionsAreKept }
     ensures follows { (c : CatalogData) (s : SettingsData) → RegistryFollows c s }
+{}
+
+/// A presence that stands for what is present shows what the journal says, though its tracks stand
+/// in another order: states, differences, and what a member tracks. It does so where each track is
+/// a member's, as behind every journal, also once channels have departed.
+pub fn presence_shows()
+    ensures apart { (c : CatalogData) (s : SettingsData) → JournalsHaveOwnTracks c s }
+    ensures stay { OwnTracksStay }
+    ensures shown { PresenceShows }
+{}
+
+/// The presence behind an input is the one before it, changed by each part of the input in turn: a
+/// track takes the place of its channel's, and what untracks or departs goes.
+pub fn presence_follows()
+    ensures { (c : CatalogData) (s : SettingsData) → PresenceFollows c s }
 {}
