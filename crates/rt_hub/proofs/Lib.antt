@@ -1,9 +1,14 @@
+mod Acts
 mod Done
 mod Effects
+mod Forms
 mod Present
 mod Presented
 mod Put
 mod Registered
 mod Renewing
 mod Rising
+mod Taking
+mod Ticking
 mod Turns
+mod Views

@@ -5,6 +5,8 @@ ghost use Rattle.rt_entry.specs.declared.input.Settings.{Settings as SettingsDat
 ghost use Rattle.rt_hub.specs.Present.{JournalsHaveOwnTracks, OwnTracksStay, PresenceFollows};
 ghost use Rattle.rt_hub.specs.Present.{PresenceShows};
 ghost use Rattle.rt_hub.specs.Registered.{MembersFollow, RegistryFollows, SubscriptionsAreKept};
+ghost use Rattle.rt_hub.specs.Taking.{FramesAreTaken, FramesLeaveOthers, TicksAreTaken};
+ghost use Rattle.rt_hub.specs.Taking.{JournalsHaveOwnChannels};
 ghost use Rattle.rt_hub.specs.Doing.{EndsAreDone, FramesAreDone, JournalsAreApart, TicksAreDone};
 
 /// Where a slot has one channel on a topic, as behind every journal, what a frame, a tick and an
@@ -42,4 +44,15 @@ pub fn presence_shows()
 /// track takes the place of its channel's, and what untracks or departs goes.
 pub fn presence_follows()
     ensures { (c : CatalogData) (s : SettingsData) → PresenceFollows c s }
+{}
+
+/// The socket of a slot behind a frame is the one that took it, once the join or the renewal that it
+/// waits for is answered, and every other slot's is what it was; behind a tick each is the one that
+/// took it. So it is where channels are told by their numbers and their topics, as behind every
+/// journal.
+pub fn sockets_follow()
+    ensures apart { (c : CatalogData) (s : SettingsData) → JournalsHaveOwnChannels c s }
+    ensures frames { (c : CatalogData) (s : SettingsData) → FramesAreTaken c s }
+    ensures others { (c : CatalogData) (s : SettingsData) → FramesLeaveOthers c s }
+    ensures ticks { (c : CatalogData) (s : SettingsData) → TicksAreTaken c s }
 {}
