@@ -1,31 +1,26 @@
 -- Inputs and entries may be given to a thread, and shared by threads, since what they hold may.
 use mathlib.Core.Path.{refl}
-use denote.Hole.{as_row}
 use denote.RattleType.{RattleType}
-use denote.Param.Send.{IsSend, IsSync, sendable}
+use denote.Param.Send.{sendable}
 use denote.Param.SendFields.{as_row_send, as_row_sync, declared_send, declared_sync}
 use Rattle.rt_value.specs.contracts.bytes.Bytes as Bytes
 use Rattle.rt_value.specs.contracts.claims.Claims as Claims
 use Rattle.rt_value.specs.contracts.list.List as List
-use Rattle.rt_value.specs.contracts.shared.Shared as Shared
 use Rattle.rt_value.specs.contracts.text.Text as Text
-use Rattle.rt_value.proofs.Crossing.{List-send, List-sync, Shared-send, Shared-sync}
+use Rattle.rt_value.proofs.Crossing.{List-send, List-sync}
 use Rattle.rt_json.specs.contracts.tree.Json as Json
 use Rattle.rt_phx.specs.contracts.end.EndName as EndName
 use Rattle.rt_phx.specs.contracts.message.Posting as Posting
 use Rattle.rt_phx.specs.contracts.message.Version as Version
 use Rattle.rt_phx.specs.contracts.said.Said as Said
 use Rattle.rt_change.specs.contracts.change.Change as Change
+use Rattle.rt_registry.proofs.Variants.{Crosses, enum_sends, enum_syncs, shared_send, shared_sync}
 use Rattle.rt_registry.specs.contracts.subscriptions.Subscriptions as Subscriptions
 use Rattle.rt_replica.specs.contracts.tables.Tables as Tables
 use Rattle.rt_entry.specs.contracts.entry.ChannelView as ChannelView
 use Rattle.rt_entry.specs.contracts.entry.Entry as Entry
 use Rattle.rt_entry.specs.contracts.input.Input as Input
 use Rattle.rt_entry.specs.contracts.views.ChannelViews as ChannelViews
-use Rattle.rt_entry.proofs.Variants.{enum_sends, enum_syncs}
-
-abbrev pub Crosses : RattleType → Type 0
-Crosses T = IsSend T × IsSync T
 
 -- the changes of a poll
 abbrev Changes : RattleType
@@ -33,12 +28,6 @@ Changes = List.the_row Change.the_row
 
 pub changes_cross : Crosses Change.the_row → Crosses Changes
 changes_cross c = (List-send Change.the_row c.0, List-sync Change.the_row c.1)
-
-shared_send : (T : RattleType) → IsSend T → IsSync T → IsSend (as_row (Shared.the_field T))
-shared_send T s y = as_row_send (Shared.the_field T) (Shared-send T s y)
-
-shared_sync : (T : RattleType) → IsSend T → IsSync T → IsSync (as_row (Shared.the_field T))
-shared_sync T s y = as_row_sync (Shared.the_field T) (Shared-sync T s y)
 
 ruleset wholes = (sendable, as_row_send, as_row_sync, List-send, List-sync)
 

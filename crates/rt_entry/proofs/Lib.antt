@@ -27,4 +27,3 @@ pub mod Spelling
 pub mod Stops
 pub mod Tracked
 pub mod Unique
-pub mod Variants

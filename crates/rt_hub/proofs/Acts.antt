@@ -1,9 +1,8 @@
 -- What each effect of a socket does to the channels of its slot, and of every other.
 use Rattle.std.proofs.Common.{◌≡◌, ℕ, Bool, true, false, not, cond, List, [], ◌∷◌, ◌++◌, map, Option, Some, None, refl}
-use Rattle.std.proofs.Common.{sym, ap, subst, ◌∙◌, append-nil, append_assoc}
+use Rattle.std.proofs.Common.{sym, ap, ◌∙◌, append-nil}
 use Rattle.std.specs.Prelude.{⊤, ◌≢◌, ◌==◌, if◌then◌else◌, Ok, Err, option_to_list}
 use Rattle.std.specs.List.{filter, cons_option}
-use Rattle.std.specs.Str.{bytes_eq}
 use Rattle.std.proofs.lemmas.Bool.{eqb-true, eq-eqb}
 use Rattle.std.proofs.lemmas.List.{map-append}
 use Rattle.std.proofs.lemmas.List.Elements.{filter-append}
@@ -32,7 +31,7 @@ use Rattle.rt_channel.specs.declared.effect.Effect.TheVariants.{Untrack, End}
 use Rattle.rt_channel.specs.declared.effect.Wish.{Wish}
 use Rattle.rt_channel.specs.declared.held.Joined.{Joined}
 use Rattle.rt_channel.specs.Effects.{is_joined_on}
-use Rattle.rt_channel.specs.Taken.{without_topic, channels_behind, answered_channels, renewed_for, joined_for, join_of}
+use Rattle.rt_channel.specs.Taken.{without_topic, channels_behind, answered_channels, renewed_for, join_of}
 use Rattle.rt_entry.specs.declared.story.Standing.{Standing}
 use Rattle.rt_entry.specs.declared.story.Channel.{Channel}
 use Rattle.rt_entry.specs.declared.story.Member.{Member}
@@ -137,9 +136,11 @@ module _ (now : Now) where
       all_map Resting (broadcast_part payload) (filter (λ to. gets_broadcast h.channel to.channel) now.members) (λ g. tt)
 
   track_rests : (gone : List ℕ) (tree : Json) (h : Member) → AllOf Resting (track_at now gone tree h)
-  track_rests gone tree h =
-      (tt, diffs_rest gone h.channel.topic (track_by now h.channel tree ∷ [])
-      (option_to_list (track_of now h.channel.number)))
+  track_rests gone tree h = (
+    tt,
+    diffs_rest gone h.channel.topic (track_by now h.channel tree ∷ [])
+        (option_to_list (track_of now h.channel.number)),
+  )
 
   untrack_rests : (gone : List ℕ) (h : Member) → AllOf Resting (untrack_at now gone h)
   untrack_rests gone h =

@@ -1,23 +1,20 @@
 -- The presence that stands for what is present shows what the journal says.
-use Rattle.std.proofs.Common.{◌≡◌, ℕ, suc, ◌<◌, ◌≤◌, Bool, true, false, ◌||◌, ◌&&◌, not, cond, List, [], ◌∷◌, ◌++◌}
+use Rattle.std.proofs.Common.{◌≡◌, ℕ, suc, ◌<◌, Bool, true, false, ◌&&◌, not, cond, List, [], ◌∷◌}
 use Rattle.std.proofs.Common.{map, Option, Some, None, refl, sym, ap, subst, ◌∙◌, arith, inl, inr}
 use Rattle.std.specs.Prelude.{⊤, ◌==◌, codes, find, option_map, option_to_list}
 use Rattle.std.specs.List.{filter}
 use Rattle.std.specs.Str.{bytes_eq}
-use Rattle.std.proofs.lemmas.Bool.{and_parts, and_from, eqb-true, eq-eqb, not-true}
+use Rattle.std.proofs.lemmas.Bool.{and_parts, and_from, eqb-true}
 use Rattle.std.proofs.lemmas.Slice.Eq.{bytes_eq-Decides}
 use Rattle.rt_value.proofs.Among.{Among, to_contains, from_contains, among_filter, filter_among}
-use Rattle.rt_value.proofs.Plain.{AllOf, all_among, all_every, all_filter, all_themselves, all_weaker, and_swap}
+use Rattle.rt_value.proofs.Plain.{AllOf, all_every, all_filter, all_themselves, all_weaker, and_swap}
 use Rattle.rt_value.proofs.Plain.{filter_alike, filter_and, filter_map_swap, filter_same, map_map, map_same, Maybe}
 use Rattle.rt_value.proofs.Moves.{Moves, then_to, moves_same, moves_back, moves_map}
 use Rattle.rt_value.proofs.Tests.{same_tests}
 use Rattle.rt_json.specs.declared.tree.Json.{Json}
 use Rattle.rt_json.specs.declared.tree.Json.TheVariants as j
-use Rattle.rt_json.specs.declared.tree.named.Member as json
-use Rattle.rt_presence.specs.declared.differences.Diff.{Diff}
-use Rattle.rt_presence.specs.Tracks.{Tracked, is_of, without_channel, joining, leaving}
-use Rattle.rt_presence.specs.Tracks as presence
-use Rattle.rt_presence.specs.Trees.{Held, held_of, joins_and_leaves, metas_member, metas_of, metas_tree, state_tree}
+use Rattle.rt_presence.specs.Tracks.{Tracked, is_of, without_channel, joining}
+use Rattle.rt_presence.specs.Trees.{Held, held_of, joins_and_leaves, metas_member, metas_of, metas_tree}
 use Rattle.rt_presence.specs.Trees.{under_key}
 use Rattle.rt_presence.proofs.Agree.{or_none}
 use Rattle.rt_presence.proofs.Places.{all_kept}
@@ -31,8 +28,8 @@ use Rattle.rt_entry.specs.Doings.{track_of, track_by, present_on}
 use Rattle.rt_entry.specs.Departing.{is_left, is_left_track, left_by}
 use Rattle.rt_entry.specs.Ids.{RiseWithin}
 use Rattle.rt_entry.proofs.Ordered.{rise_kept}
-use Rattle.rt_hub.specs.Present.{tracked_of, all_put, presence_of, IsOwn, HasOwnTracks, state_message}
-use Rattle.rt_hub.specs.Present.{difference_message, tracked_by, IsShown, PresenceShows, OwnTracksStay}
+use Rattle.rt_hub.specs.Present.{tracked_of, all_put, presence_of, HasOwnTracks, state_message}
+use Rattle.rt_hub.specs.Present.{difference_message, tracked_by, PresenceShows, OwnTracksStay}
 use Rattle.rt_hub.proofs.Put.{filter_all_put, all_put_moves, IsUnder, Rise, in_line_alone}
 use Rattle.rt_hub.proofs.Rising.{one_order}
 
@@ -251,8 +248,7 @@ own_tracks_stay now gone fine =
           (to_contains ts u (old u (from_contains left u b)));
       known = λ t a.
           let f = among_filter stays ts t (from_contains left t a) in
-          let r = fine.known t (to_contains ts t f.0) in
-          (
+          let r = fine.known t (to_contains ts t f.0) in (
             r.0,
             to_contains here r.0 (filter_among still hs r.0 (from_contains hs r.0 r.1)
                 (ap (λ (n : ℕ). not (has n gone)) r.2 ∙ f.1)),

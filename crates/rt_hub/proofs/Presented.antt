@@ -1,8 +1,8 @@
 -- A presence that is changed by each part of an input in turn stands for what is present behind it.
-use Rattle.std.proofs.Common.{◌≡◌, ◌⊎◌, ℕ, ◌<◌, Bool, true, false, ◌||◌, ◌&&◌, not, cond, List, [], ◌∷◌, ◌++◌, map}
-use Rattle.std.proofs.Common.{length, Option, Some, None, refl, sym, ap, subst, ◌∙◌, append-nil, arith, inl, inr}
-use Rattle.std.specs.Prelude.{⊤, ◌==◌, Contains, find}
-use Rattle.std.specs.List.{filter, filter_map, flat_map, list_any}
+use Rattle.std.proofs.Common.{◌≡◌, ℕ, Bool, true, false, ◌||◌, ◌&&◌, not, List, [], ◌∷◌, ◌++◌, map}
+use Rattle.std.proofs.Common.{Option, Some, None, refl, sym, ap, subst, ◌∙◌, append-nil}
+use Rattle.std.specs.Prelude.{⊤, ◌==◌}
+use Rattle.std.specs.List.{filter, list_any}
 use Rattle.std.specs.Str.{bytes_eq}
 use Rattle.std.proofs.lemmas.Bool.{and_parts, and_from, eqb-true, eq-eqb}
 use Rattle.std.proofs.lemmas.List.Concat.{flat_map-append}
@@ -12,7 +12,7 @@ use Rattle.rt_value.proofs.Among.{Among, to_contains, from_contains}
 use Rattle.rt_value.proofs.Plain.{AllOf, all_append, all_every, all_filter, all_themselves, all_weaker}
 use Rattle.rt_value.proofs.Plain.{filter_alike, filter_all, filter_and, filter_same, Maybe}
 use Rattle.rt_value.proofs.Tests.{same_tests}
-use Rattle.rt_presence.specs.Tracks.{Tracked, is_of, put, with_track, without_channel}
+use Rattle.rt_presence.specs.Tracks.{Tracked, is_of, put, with_track}
 use Rattle.rt_presence.specs.Index.{place_of}
 use Rattle.rt_presence.proofs.Agree.{or_none}
 use Rattle.rt_presence.proofs.Places as places
@@ -36,7 +36,7 @@ use Rattle.rt_entry.proofs.Once.{numbers_apart}
 use Rattle.rt_entry.proofs.Ordered.{references_rise, keys_channels}
 use Rattle.rt_entry.proofs.Present.{track_once, tracks_members}
 use Rattle.rt_entry.proofs.Sound.{Shaped}
-use Rattle.rt_hub.specs.Present.{tracked_of, all_put, presence_of, IsOwn, HasOwnTracks, member_numbered}
+use Rattle.rt_hub.specs.Present.{tracked_of, all_put, presence_of, HasOwnTracks, member_numbered}
 use Rattle.rt_hub.specs.Present.{without_member, presented_by, presented_after, JournalsHaveOwnTracks, PresenceFollows}
 use Rattle.rt_hub.proofs.Put.{filter_all_put, all_put_append}
 use Rattle.rt_hub.proofs.Present.{find_kept}

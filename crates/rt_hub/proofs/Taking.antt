@@ -1,8 +1,8 @@
 -- The sockets behind a frame and a tick.
-use Rattle.std.proofs.Common.{◌≡◌, ◌⊎◌, ℕ, zero, suc, ◌+◌, ◌<◌, Bool, true, false, ◌||◌, not, cond, List, [], ◌∷◌, ◌++◌, map}
-use Rattle.std.proofs.Common.{length, Option, Some, None, refl, sym, ap, subst, ◌∙◌, append-nil, append_assoc, arith, inl, inr}
-use Rattle.std.specs.Prelude.{⊤, ◌≢◌, ◌==◌, slice_get, if◌then◌else◌, is_some, option_map, find}
-use Rattle.std.specs.List.{filter, list_any, enumerate_from}
+use Rattle.std.proofs.Common.{◌≡◌, ℕ, Bool, true, false, ◌||◌, cond, List, [], ◌∷◌, ◌++◌}
+use Rattle.std.proofs.Common.{length, Option, Some, None, refl, sym, ap, subst, ◌∙◌, append-nil, append_assoc}
+use Rattle.std.specs.Prelude.{◌≢◌, ◌==◌, if◌then◌else◌, option_map}
+use Rattle.std.specs.List.{list_any}
 use Rattle.std.proofs.lemmas.Bool.{eqb-true}
 use Rattle.rt_value.specs.Choice.{◌>>=◌}
 use Rattle.rt_value.specs.declared.row.Row.{Row}
@@ -15,19 +15,19 @@ use Rattle.rt_channel.specs.declared.effect.Effect.TheVariants.{Say, Join, Renew
 use Rattle.rt_channel.specs.declared.effect.Effect.TheVariants.{Untrack, End}
 use Rattle.rt_channel.specs.declared.held.Held.{Held}
 use Rattle.rt_channel.specs.declared.held.Joined.{Joined}
-use Rattle.rt_channel.specs.Effects.{effects_of, tick_effects}
-use Rattle.rt_channel.specs.Taken.{channels_behind, channels_after, with_channels, is_end, held_after, ticked, taken}
+use Rattle.rt_channel.specs.Effects.{effects_of}
+use Rattle.rt_channel.specs.Taken.{channels_behind, channels_after, is_end, held_after, taken}
 use Rattle.rt_channel.specs.Taken.{is_asked, unanswered, answered_channels, answered}
 use Rattle.rt_entry.specs.declared.input.Input.{Input}
-use Rattle.rt_entry.specs.declared.input.Input.TheVariants.{Frame, Tick}
+use Rattle.rt_entry.specs.declared.input.Input.TheVariants.{Frame}
 use Rattle.rt_entry.specs.declared.input.Settings.{Settings}
 use Rattle.rt_entry.specs.declared.story.Opening.{Opening}
 use Rattle.rt_entry.specs.declared.story.Member.{Member}
 use Rattle.rt_entry.specs.declared.story.Part.{Part}
 use Rattle.rt_entry.specs.declared.story.Part.TheVariants.{Ends}
 use Rattle.rt_entry.specs.Story.{Now, now_of, departed_in, heard_in, opened_after}
-use Rattle.rt_entry.specs.Doings.{in_turn, or_none, opening_in, doings, story}
-use Rattle.rt_entry.specs.After.{after, found_by, members_after}
+use Rattle.rt_entry.specs.Doings.{in_turn, opening_in, doings, story}
+use Rattle.rt_entry.specs.After.{after}
 use Rattle.rt_entry.proofs.Shapes.{Below, eqb_same}
 use Rattle.rt_entry.proofs.Journals.{story_shaped}
 use Rattle.rt_entry.proofs.Sound.{members_in, held_below}
@@ -37,13 +37,13 @@ use Rattle.rt_hub.specs.Sockets.{held_of, socket_of}
 use Rattle.rt_hub.specs.Doing.{asked, parts_of_effects}
 use Rattle.rt_hub.specs.Registered.{members_by}
 use Rattle.rt_hub.specs.Taking.{answer_to, settled, HasOwnChannels, JournalsHaveOwnChannels, asked_by, FramesAreTaken}
-use Rattle.rt_hub.specs.Taking.{FramesLeaveOthers, TicksAreTaken}
+use Rattle.rt_hub.specs.Taking.{FramesLeaveOthers}
 use Rattle.rt_hub.proofs.Acts.{act, AreOld, drops, once_own, once_other, wish_own, wish_other, wish_spares}
-use Rattle.rt_hub.proofs.Effects.{frames_done, ticks_done}
-use Rattle.rt_hub.proofs.Forms.{AtOnce, IsWish, Form, shuts, done, waits, form_frame, form_tick}
+use Rattle.rt_hub.proofs.Effects.{frames_done}
+use Rattle.rt_hub.proofs.Forms.{AtOnce, IsWish, Form, shuts, done, waits, form_frame}
 use Rattle.rt_hub.proofs.Turns.{members_append}
 use Rattle.rt_hub.proofs.Views.{view, Dropping, all_dropping_spare, still_all, spared, opened_append, held_by}
-use Rattle.rt_hub.proofs.Views.{socket_behind, apart_of, turned}
+use Rattle.rt_hub.proofs.Views.{socket_behind, turned}
 
 -- effects and what waits among them
 not_end : (e : Effect) → AtOnce e → is_end e ≡ false
@@ -130,8 +130,7 @@ pub turn_append : (f : List ℕ → Effect → List Part) (gone : List ℕ) (xs 
 turn_append f gone [] y = (gone, append-nil (f gone y))
 turn_append f gone (x ∷ xs) y =
     let next = departed_in (f gone x) ++ gone in
-    let r = turn_append f next xs y in
-    (
+    let r = turn_append f next xs y in (
       r.0,
       ap (λ (ps : List Part). f gone x ++ ps) r.1 ∙ sym (append_assoc (f gone x) (in_turn f next xs) (f r.0 y)),
     )

@@ -1,5 +1,5 @@
 -- The sockets behind a tick.
-use Rattle.std.proofs.Common.{◌≡◌, ℕ, zero, suc, ◌+◌, ◌<◌, Bool, true, false, cond, List, [], ◌∷◌, ◌++◌, Option, Some}
+use Rattle.std.proofs.Common.{◌≡◌, ℕ, zero, suc, ◌+◌, ◌<◌, false, List, [], ◌∷◌, ◌++◌, Option, Some}
 use Rattle.std.proofs.Common.{None, refl, sym, ap, subst, ◌∙◌, arith, inl, inr}
 use Rattle.std.specs.Prelude.{◌≢◌, slice_get, option_map}
 use Rattle.std.specs.List.{enumerate_from}
@@ -9,7 +9,6 @@ use Rattle.rt_value.specs.declared.row.Row.{Row}
 use Rattle.rt_value.proofs.Among.{Among}
 use Rattle.rt_value.proofs.Plain.{AllOf, all_append, all_themselves}
 use Rattle.rt_catalog.specs.declared.catalog.Catalog.{Catalog}
-use Rattle.rt_phx.specs.declared.end.EndName.{EndName}
 use Rattle.rt_channel.specs.declared.effect.Effect.{Effect}
 use Rattle.rt_channel.specs.declared.effect.Effect.TheVariants.{End}
 use Rattle.rt_channel.specs.declared.held.Held.{Held}
@@ -30,9 +29,9 @@ use Rattle.rt_hub.specs.Sockets.{held_of, socket_of}
 use Rattle.rt_hub.specs.Doing.{asked, parts_of_effects}
 use Rattle.rt_hub.specs.Registered.{members_by}
 use Rattle.rt_hub.specs.Taking.{settled, HasOwnChannels, TicksAreTaken}
-use Rattle.rt_hub.proofs.Acts.{act, AreOld}
+use Rattle.rt_hub.proofs.Acts.{act}
 use Rattle.rt_hub.proofs.Effects.{ticks_done}
-use Rattle.rt_hub.proofs.Forms.{AtOnce, Form, shuts, done, waits, form_tick}
+use Rattle.rt_hub.proofs.Forms.{Form, shuts, done, waits, form_tick}
 use Rattle.rt_hub.proofs.Taking.{front_asks, none_asks, turn_append, acts, all_drop, behind_all, stays_shut, leaves_all}
 use Rattle.rt_hub.proofs.Turns.{members_append}
 use Rattle.rt_hub.proofs.Views.{view, still_all, spared, opened_append, held_by, socket_behind, turned}

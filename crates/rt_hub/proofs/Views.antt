@@ -1,10 +1,10 @@
 -- The channels of a slot and its opening behind parts.
-use Rattle.std.proofs.Common.{◌≡◌, ℕ, zero, suc, ◌+◌, Bool, true, false, List, [], ◌∷◌, ◌++◌, map, Option, Some, None}
+use Rattle.std.proofs.Common.{◌≡◌, ℕ, zero, suc, ◌+◌, Bool, List, [], ◌∷◌, ◌++◌, map, Option, Some, None}
 use Rattle.std.proofs.Common.{refl, sym, ap, subst, ◌∙◌, arith}
-use Rattle.std.specs.Prelude.{⊤, ◌==◌, slice_get, if◌then◌else◌, is_some, option_map}
+use Rattle.std.specs.Prelude.{⊤, slice_get, if◌then◌else◌, is_some, option_map}
 use Rattle.std.specs.List.{filter, enumerate_from}
 use Rattle.rt_value.specs.declared.row.Row.{Row}
-use Rattle.rt_value.proofs.Among.{Among, to_contains, from_contains}
+use Rattle.rt_value.proofs.Among.{Among, to_contains}
 use Rattle.rt_value.proofs.Plain.{AllOf, all_filter, all_themselves, all_weaker}
 use Rattle.rt_catalog.specs.declared.catalog.Catalog.{Catalog}
 use Rattle.rt_private.specs.Rights.{messages_of}
@@ -21,8 +21,8 @@ use Rattle.rt_entry.specs.Doings.{or_none, opening_in, is_of_slot, doings}
 use Rattle.rt_entry.specs.After.{opens_after, members_after, remains, after}
 use Rattle.rt_entry.proofs.Shapes.{AreApart, Below, fine_for, shape_doings}
 use Rattle.rt_entry.proofs.Opens.{Spares}
-use Rattle.rt_hub.specs.Sockets.{joined_of, held_of, socket_of}
-use Rattle.rt_hub.specs.Registered.{member_by, members_by}
+use Rattle.rt_hub.specs.Sockets.{joined_of, socket_of}
+use Rattle.rt_hub.specs.Registered.{members_by}
 use Rattle.rt_hub.specs.Taking.{HasOwnChannels}
 use Rattle.rt_hub.proofs.Renewing.{renews_one}
 use Rattle.rt_hub.proofs.Turns.{Lets, let_go, shape_turns}

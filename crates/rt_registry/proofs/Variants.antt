@@ -1,14 +1,27 @@
--- `Send` and `Sync` of an enum from those of what its variants hold, each as its author sees it.
+-- `Send` and `Sync` of an enum from those of what its variants hold, each as its author sees it, and of what is shared.
 use mathlib.Core.Path.{◌≡◌, subst, sym}
 use mathlib.Core.Logic.{inl, inr}
 use mathlib.Core.List.{List, [], ◌∷◌}
+use denote.Hole.{as_row}
+use denote.RattleType.{RattleType}
 use denote.Struct.Field.{Field, rows}
 use denote.Struct.Values.{Values, intos}
 use denote.Enum.Enum.{Enum}
 use denote.Enum.Declared.{Declared, Choice, row, rowss, intoss, shape}
 use denote.Param.Send.{IsSend, IsSync, SendAt, SyncAt, FieldsAt, LiveAt, recorded_send_at, recorded_send_of}
 use denote.Param.Send.{enum_send_at, enum_sync_at}
-use denote.Param.SendFields.{FieldsHave, VariantsHave}
+use denote.Param.SendFields.{FieldsHave, VariantsHave, as_row_send, as_row_sync}
+use Rattle.rt_value.specs.contracts.shared.Shared as Shared
+use Rattle.rt_value.proofs.Crossing.{Shared-send, Shared-sync}
+
+abbrev pub Crosses : RattleType → Type 0
+Crosses T = IsSend T × IsSync T
+
+pub shared_send : (T : RattleType) → IsSend T → IsSync T → IsSend (as_row (Shared.the_field T))
+shared_send T s y = as_row_send (Shared.the_field T) (Shared-send T s y)
+
+pub shared_sync : (T : RattleType) → IsSend T → IsSync T → IsSync (as_row (Shared.the_field T))
+shared_sync T s y = as_row_sync (Shared.the_field T) (Shared-sync T s y)
 
 fields_send : (Fs : List Field) → FieldsHave IsSend Fs → (v : Values Fs) → FieldsAt SendAt (rows Fs) (intos Fs v)
 fields_send [] s v = tt
