@@ -84,8 +84,8 @@ abbrev pub renewed_for : List ℕ → Claims → Option (List ℕ) → Option (L
 renewed_for topic claims send track j =
     if is_joined_on topic j then record j { claims = claims; send = send; track = track } else j
 
--- what an answer makes of the channels: an accepted join comes behind them, a renewal has its claims, or else the channel
--- is gone
+-- what an answer makes of the channels: an accepted join comes behind them, a renewal has its claims, or else the
+-- channel is gone
 abbrev pub answered_channels : Effect → Answer → List Joined → List Joined
 answered_channels (Join w) (Accepted presence send track) js = js ++ joined_for w presence send track ∷ []
 answered_channels (Renew topic claims) (Renewed send track) js = map (renewed_for topic claims send track) js

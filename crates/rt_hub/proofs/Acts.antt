@@ -1,110 +1,46 @@
--- What each effect of a socket does to the channels of its slot, and of every other.
-use Rattle.std.proofs.Common.{◌≡◌, ℕ, Bool, true, false, not, cond, List, [], ◌∷◌, ◌++◌, map, Option, Some, None, refl}
-use Rattle.std.proofs.Common.{sym, ap, ◌∙◌, append-nil}
-use Rattle.std.specs.Prelude.{⊤, ◌≢◌, ◌==◌, if◌then◌else◌, Ok, Err, option_to_list}
-use Rattle.std.specs.List.{filter, cons_option}
+-- What an effect that is done at once does to the channels of its slot, and of every other.
+use Rattle.std.proofs.Common.{◌≡◌, ℕ, Bool, true, false, not, List, [], ◌∷◌, ◌++◌, map, Option, Some, None, refl}
+use Rattle.std.proofs.Common.{sym, ap, ◌∙◌}
+use Rattle.std.specs.Prelude.{◌≢◌, ◌==◌, option_to_list}
+use Rattle.std.specs.List.{filter}
 use Rattle.std.proofs.lemmas.Bool.{eqb-true, eq-eqb}
-use Rattle.std.proofs.lemmas.List.{map-append}
-use Rattle.std.proofs.lemmas.List.Elements.{filter-append}
 use Rattle.std.proofs.lemmas.Slice.Eq.{bytes_eq-Decides}
-use Rattle.rt_value.specs.declared.claims.Claims.{Claims}
 use Rattle.rt_value.specs.declared.row.Row.{Row}
 use Rattle.rt_value.proofs.Among.{Among, to_contains, among_filter, filter_among}
 use Rattle.rt_value.proofs.Plain.{AllOf, all_among, all_append, all_map, all_themselves, filter_alike, filter_all}
-use Rattle.rt_value.proofs.Plain.{filter_map_swap, map_map, Maybe}
+use Rattle.rt_value.proofs.Plain.{filter_map_swap, Maybe}
 use Rattle.rt_value.proofs.Tests.{same_tests}
 use Rattle.rt_json.specs.declared.tree.Json.{Json}
 use Rattle.rt_phx.specs.declared.message.Message.{Message}
-use Rattle.rt_phx.specs.Checked.{Checked, ◌>>◌, demand, told_by, unless}
-use Rattle.rt_phx.specs.Limits.{too_many_channels}
-use Rattle.rt_phx.specs.Asks.{name_in}
 use Rattle.rt_presence.proofs.Agree.{commute}
 use Rattle.rt_presence.proofs.Places.{all_kept, none_found}
 use Rattle.rt_catalog.specs.declared.catalog.Catalog.{Catalog}
-use Rattle.rt_private.specs.Rights as private
-use Rattle.rt_registry.specs.declared.binding.Subscribed.{Subscribed}
-use Rattle.rt_registry.specs.Asked.{registry_text}
-use Rattle.rt_registry.specs.Bindings.{role_for, bindings_for}
 use Rattle.rt_channel.specs.declared.effect.Effect.{Effect}
 use Rattle.rt_channel.specs.declared.effect.Effect.TheVariants.{Say, Join, Renew, Leave, Close, Broadcast, Track}
 use Rattle.rt_channel.specs.declared.effect.Effect.TheVariants.{Untrack, End}
-use Rattle.rt_channel.specs.declared.effect.Wish.{Wish}
 use Rattle.rt_channel.specs.declared.held.Joined.{Joined}
 use Rattle.rt_channel.specs.Effects.{is_joined_on}
-use Rattle.rt_channel.specs.Taken.{without_topic, channels_behind, answered_channels, renewed_for, join_of}
-use Rattle.rt_entry.specs.declared.story.Standing.{Standing}
+use Rattle.rt_channel.specs.Taken.{without_topic, channels_behind}
 use Rattle.rt_entry.specs.declared.story.Channel.{Channel}
 use Rattle.rt_entry.specs.declared.story.Member.{Member}
 use Rattle.rt_entry.specs.declared.story.Track as story
 use Rattle.rt_entry.specs.declared.story.Part.{Part}
-use Rattle.rt_entry.specs.declared.story.Part.TheVariants.{Renews}
-use Rattle.rt_entry.specs.Story.{Now, first_or}
+use Rattle.rt_entry.specs.Story.{Now}
 use Rattle.rt_entry.specs.Messages.{subscribed_message, presence_state}
-use Rattle.rt_entry.specs.Joining.{denied, standing_for}
-use Rattle.rt_entry.specs.Doings.{is_of_slot, is_on, channels_of, channel_on, track_of, track_by, watches, diff_to, diffs}
+use Rattle.rt_entry.specs.Doings.{is_of_slot, is_on, channels_of, channel_on, track_of, track_by, watches, diff_to}
+use Rattle.rt_entry.specs.Doings.{diffs}
 use Rattle.rt_entry.specs.Doings.{leave_diffs, depart, close, untrack_part, tell_if, has_bindings, present_on}
-use Rattle.rt_entry.specs.Doings.{join_result_parts, gets_broadcast, broadcast_part}
-use Rattle.rt_entry.specs.After.{renewed, new_member, with_standing}
-use Rattle.rt_entry.proofs.Registered.{Gives}
-use Rattle.rt_entry.proofs.Shapes.{eqb_same}
-use Rattle.rt_entry.proofs.Opens.{Spares}
+use Rattle.rt_entry.specs.Doings.{gets_broadcast, broadcast_part}
 use Rattle.rt_hub.specs.Sockets.{joined_of}
-use Rattle.rt_hub.specs.Doing.{at_channel, renew_at, broadcast_at, track_at, untrack_at, channel_wished, channel_of_wish}
-use Rattle.rt_hub.specs.Doing.{standing_by, parts_of_effect}
+use Rattle.rt_hub.specs.Doing.{at_channel, broadcast_at, track_at, untrack_at}
+use Rattle.rt_hub.specs.Doing.{parts_of_effect}
 use Rattle.rt_hub.specs.Registered.{members_by}
-use Rattle.rt_hub.specs.Taking.{join_answer, renewal_answer, renewal_for, answer_to, HasOwnChannels}
-use Rattle.rt_hub.proofs.Forms.{AtOnce, IsWish}
+use Rattle.rt_hub.specs.Taking.{HasOwnChannels}
+use Rattle.rt_hub.proofs.Forms.{AtOnce}
 use Rattle.rt_hub.proofs.Present.{find_kept}
-use Rattle.rt_hub.proofs.Views.{view, Resting, Dropping, all_resting_drop, all_dropping_spare, rest_same}
+use Rattle.rt_hub.proofs.Views.{view, Resting, Dropping, all_resting_drop, rest_same}
 
-map_alike : {A B : Type 0} (f g : A → B) (xs : List A) → AllOf (λ x. f x ≡ g x) xs → map f xs ≡ map g xs
-map_alike f g [] e = refl
-map_alike f g (x ∷ xs) e = ap (λ y. y ∷ map f xs) e.0 ∙ ap (λ ys. g x ∷ ys) (map_alike f g xs e.1)
-
--- claims that pass are those of the standing
-module _ (c : Catalog) (tables : List (List Row)) (claims : Claims) where
-  abbrev HasClaims : Standing → Type 0
-  HasClaims x = x.claims ≡ claims
-
-  abbrev made : List ℕ → ℕ → Standing
-  made name role = record {
-    role = role;
-    claims = claims;
-    send = denied c tables role claims name private.send;
-    track = denied c tables role claims name private.track;
-  }
-
-  by_right : (name : List ℕ) (role : ℕ) (why : Option (List ℕ))
-      → Gives HasClaims (unless why >> λ _. Ok (made name role))
-  by_right name role None = refl
-  by_right name role (Some why) = tt
-
-  by_role : (name : List ℕ) (r : Checked ℕ)
-      → Gives HasClaims
-      (r >> λ role. unless (denied c tables role claims name private.join) >> λ _. Ok (made name role))
-  by_role name (Ok role) = by_right name role (denied c tables role claims name private.join)
-  by_role name (Err why) = tt
-
-  claims_kept : (name : List ℕ) → Gives HasClaims (standing_for c tables name claims)
-  unfolding standing_for
-  claims_kept name = by_role name (told_by registry_text (role_for c claims))
-
-  by_bindings : (x : Standing) → HasClaims x → (r : Checked (List Subscribed)) → Gives HasClaims (r >> λ _. Ok x)
-  by_bindings x e (Ok ss) = e
-  by_bindings x e (Err why) = tt
-
-  by_standing : (bindings : Checked (List Subscribed)) (r : Checked Standing) → Gives HasClaims r
-      → Gives HasClaims (r >> λ x. bindings >> λ _. Ok x)
-  by_standing bindings (Ok x) e = by_bindings x e bindings
-  by_standing bindings (Err why) e = tt
-
-  renewal_claims : (now : Now) (ch : Channel) → Gives HasClaims (standing_by c now tables claims ch)
-  unfolding standing_by
-  renewal_claims now ch =
-      by_standing (told_by registry_text (bindings_for c claims (map (λ b. b.binding) ch.bindings)))
-      (standing_for c tables (name_in ch.topic) claims) (claims_kept (name_in ch.topic))
-
-at_one : (B : Part → Type 0) (f : Member → List Part) → ((h : Member) → AllOf B (f h)) → (o : Option Member)
+pub at_one : (B : Part → Type 0) (f : Member → List Part) → ((h : Member) → AllOf B (f h)) → (o : Option Member)
     → AllOf B (at_channel f o)
 at_one B f a None = tt
 at_one B f a (Some h) = a h
@@ -118,7 +54,8 @@ untracked_rests n None = tt
 untracked_rests n (Some t) = (tt, tt)
 
 module _ (now : Now) where
-  diffs_rest : (gone topic : List ℕ) (joins leaves : List story.Track) → AllOf Resting (diffs now gone topic joins leaves)
+  diffs_rest : (gone topic : List ℕ) (joins leaves : List story.Track)
+      → AllOf Resting (diffs now gone topic joins leaves)
   diffs_rest gone topic joins leaves =
       all_map Resting (diff_to joins leaves) (filter (watches gone topic) now.members) (λ h. tt)
 
@@ -126,14 +63,15 @@ module _ (now : Now) where
   leaves_rest gone None = tt
   leaves_rest gone (Some t) = diffs_rest gone t.topic [] (t ∷ [])
 
-  departs_drops : (gone : List ℕ) (h : Member) → AllOf Dropping (depart now gone h)
+  pub departs_drops : (gone : List ℕ) (h : Member) → AllOf Dropping (depart now gone h)
   departs_drops gone h =
       let n = h.channel.number in
       (tt, all_resting_drop (leave_diffs now (n ∷ gone) (track_of now n)) (leaves_rest (n ∷ gone) (track_of now n)))
 
   broadcast_rests : (payload : Json) (h : Member) → AllOf Resting (broadcast_at now payload h)
   broadcast_rests payload h =
-      all_map Resting (broadcast_part payload) (filter (λ to. gets_broadcast h.channel to.channel) now.members) (λ g. tt)
+      all_map Resting (broadcast_part payload) (filter (λ to. gets_broadcast h.channel to.channel) now.members)
+      (λ g. tt)
 
   track_rests : (gone : List ℕ) (tree : Json) (h : Member) → AllOf Resting (track_at now gone tree h)
   track_rests gone tree h = (
@@ -148,7 +86,7 @@ module _ (now : Now) where
       all_append Resting (untrack_part h.channel.number t) (leave_diffs now gone t)
       (untracked_rests h.channel.number t) (leaves_rest gone t)
 
-  accepted_rest : (gone : List ℕ) (ch : Channel)
+  pub accepted_rest : (gone : List ℕ) (ch : Channel)
       → AllOf Resting (tell_if (has_bindings ch) ch.slot (subscribed_message ch)
       ++ tell_if ch.presence ch.slot (presence_state ch (present_on now gone ch.topic)))
   accepted_rest gone ch =
@@ -184,12 +122,12 @@ module _ (c : Catalog) (now : Now) (tables : List (List Row)) (slot : ℕ) (own 
   drops gone (End name) a = absurd a
 
   -- the channel that is found on a topic
-  record IsOn (topic : List ℕ) (h : Member) : Type 0 where
-    here : Among now.members h
-    slot_is : h.channel.slot ≡ slot
-    topic_is : h.channel.topic ≡ topic
+  pub record IsOn (topic : List ℕ) (h : Member) : Type 0 where
+    pub here : Among now.members h
+    pub slot_is : h.channel.slot ≡ slot
+    pub topic_is : h.channel.topic ≡ topic
 
-  found_on : (topic : List ℕ) → Maybe (IsOn topic) (channel_on now slot topic)
+  pub found_on : (topic : List ℕ) → Maybe (IsOn topic) (channel_on now slot topic)
   found_on topic =
       find_kept (λ (h : Member). is_on topic h.channel) (Among (channels_of now slot)) (IsOn topic)
       (channels_of now slot) (λ h e a.
@@ -200,7 +138,7 @@ module _ (c : Catalog) (now : Now) (tables : List (List Row)) (slot : ℕ) (own 
         topic_is = (bytes_eq-Decides h.channel.topic topic).0 e;
       }) (all_themselves (channels_of now slot))
 
-  none_on : (topic : List ℕ) → channel_on now slot topic ≡ None → (hs : List Member) → AreOld hs
+  pub none_on : (topic : List ℕ) → channel_on now slot topic ≡ None → (hs : List Member) → AreOld hs
       → without_topic topic (view slot hs) ≡ view slot hs
   none_on topic e hs old =
       let rest : Joined → Bool = λ j. not (is_joined_on topic j) in
@@ -214,7 +152,7 @@ module _ (c : Catalog) (now : Now) (tables : List (List Row)) (slot : ℕ) (own 
       (filter_among (is_of_slot slot) now.members h a t))) old))
 
   -- on the slot a channel is told by its number as by its topic
-  told_same : (topic : List ℕ) (h : Member) → IsOn topic h → (hs : List Member) → AreOld hs
+  pub told_same : (topic : List ℕ) (h : Member) → IsOn topic h → (hs : List Member) → AreOld hs
       → AllOf (λ (g : Member). (h.channel.number == g.channel.number) ≡ is_on topic g.channel)
       (filter (is_of_slot slot) hs)
   told_same topic h on hs old =
@@ -232,7 +170,7 @@ module _ (c : Catalog) (now : Now) (tables : List (List Row)) (slot : ℕ) (own 
       eq-eqb h.channel.number g.channel.number (ap (λ (x : Member). x.channel.number) same))) old
 
   -- and on another slot it is none
-  apart_from : (topic : List ℕ) (h : Member) → IsOn topic h → (other : ℕ) → other ≢ slot → (hs : List Member)
+  pub apart_from : (topic : List ℕ) (h : Member) → IsOn topic h → (other : ℕ) → other ≢ slot → (hs : List Member)
       → AreOld hs
       → AllOf (λ (g : Member). (h.channel.number == g.channel.number) ≡ false) (filter (is_of_slot other) hs)
   apart_from topic h on other differ hs old =
@@ -249,10 +187,10 @@ module _ (c : Catalog) (now : Now) (tables : List (List Row)) (slot : ℕ) (own 
           ∙ on.slot_is))
       by g t a false e = refl
 
-  abbrev without : Member → List Member → List Member
+  abbrev pub without : Member → List Member → List Member
   without h hs = filter (λ g. not (h.channel.number == g.channel.number)) hs
 
-  gone_own : (topic : List ℕ) (h : Member) → IsOn topic h → (hs : List Member) → AreOld hs
+  pub gone_own : (topic : List ℕ) (h : Member) → IsOn topic h → (hs : List Member) → AreOld hs
       → view slot (without h hs) ≡ without_topic topic (view slot hs)
   gone_own topic h on hs old =
       let here = filter (is_of_slot slot) hs in
@@ -262,12 +200,13 @@ module _ (c : Catalog) (now : Now) (tables : List (List Row)) (slot : ℕ) (own 
       ∙ filter_alike other (λ g. rest (joined_of g)) here (nots here (told_same topic h on hs old)))
       ∙ sym (filter_map_swap rest joined_of here)
     where
-      nots : (gs : List Member) → AllOf (λ (g : Member). (h.channel.number == g.channel.number) ≡ is_on topic g.channel) gs
+      nots : (gs : List Member)
+          → AllOf (λ (g : Member). (h.channel.number == g.channel.number) ≡ is_on topic g.channel) gs
           → AllOf (λ (g : Member). not (h.channel.number == g.channel.number) ≡ not (is_on topic g.channel)) gs
       nots [] a = tt
       nots (g ∷ gs) a = (ap not a.0, nots gs a.1)
 
-  gone_other : (topic : List ℕ) (h : Member) → IsOn topic h → (other : ℕ) → other ≢ slot → (hs : List Member)
+  pub gone_other : (topic : List ℕ) (h : Member) → IsOn topic h → (other : ℕ) → other ≢ slot → (hs : List Member)
       → AreOld hs → view other (without h hs) ≡ view other hs
   gone_other topic h on other differ hs old =
       let here = filter (is_of_slot other) hs in
@@ -281,10 +220,11 @@ module _ (c : Catalog) (now : Now) (tables : List (List Row)) (slot : ℕ) (own 
       nots (g ∷ gs) a = (ap not a.0, nots gs a.1)
 
   -- where a channel departs
-  departed : (gone : List ℕ) (h : Member) (hs : List Member) → members_by (depart now gone h) hs ≡ without h hs
+  pub departed : (gone : List ℕ) (h : Member) (hs : List Member) → members_by (depart now gone h) hs ≡ without h hs
   departed gone h hs =
       let n = h.channel.number in
-      rest_same (leave_diffs now (n ∷ gone) (track_of now n)) (without h hs) (leaves_rest now (n ∷ gone) (track_of now n))
+      rest_same (leave_diffs now (n ∷ gone) (track_of now n)) (without h hs)
+      (leaves_rest now (n ∷ gone) (track_of now n))
 
   left_own : (topic : List ℕ) (f : Member → List Part) (hs : List Member) → AreOld hs
       → ((h : Member) → members_by (f h) hs ≡ without h hs) → (o : Option Member) → channel_on now slot topic ≡ o
@@ -312,7 +252,8 @@ module _ (c : Catalog) (now : Now) (tables : List (List Row)) (slot : ℕ) (own 
   once_own gone (Join w) a hs old = absurd a
   once_own gone (Renew topic claims) a hs old = absurd a
   once_own gone (Leave topic) a hs old =
-      left_own topic (depart now gone) hs old (λ h. departed gone h hs) (channel_on now slot topic) refl (found_on topic)
+      left_own topic (depart now gone) hs old (λ h. departed gone h hs) (channel_on now slot topic) refl
+      (found_on topic)
   once_own gone (Close topic) a hs old =
       left_own topic (close now gone) hs old (λ h. departed gone h hs) (channel_on now slot topic) refl (found_on topic)
   once_own gone (Broadcast topic payload) a hs old =
@@ -341,207 +282,3 @@ module _ (c : Catalog) (now : Now) (tables : List (List Row)) (slot : ℕ) (own 
   once_other gone (Untrack topic) a other differ hs old =
       ap (view other) (rests_at (untrack_at now gone) (untrack_rests now gone) topic hs)
   once_other gone (End name) a other differ hs old = absurd a
-
-  -- a join
-  each : {A : Type 0} (P : Checked Channel → Type 0) (B : A → Type 0) → ((why : List ℕ) → P (Err why))
-      → (r : Checked A) (f : A → Checked Channel) → Gives B r → ((a : A) → B a → P (f a)) → P (r >> f)
-  each P B refused (Ok a) f g given = given a g
-  each P B refused (Err why) f g given = refused why
-
-  any_given : {A : Type 0} (r : Checked A) → Gives (λ x. ⊤) r
-  any_given (Ok x) = tt
-  any_given (Err e) = tt
-
-  -- what holds of each channel that a wish may make
-  wished_so : (P : Checked Channel → Type 0) (w : Wish) → ((why : List ℕ) → P (Err why))
-      → ((x : Standing) (bindings : List Subscribed) → x.claims ≡ w.claims
-      → P (Ok (channel_wished c now tables slot w x bindings)))
-      → P (channel_of_wish c now tables slot w)
-  unfolding channel_of_wish
-  wished_so P w refused given =
-      let room = demand (not w.full) too_many_channels in
-      let bound = told_by registry_text (bindings_for c w.claims w.bindings) in
-      each P (λ (x : Standing). x.claims ≡ w.claims) refused (standing_for c tables (name_in w.topic) w.claims) _
-      (claims_kept c tables w.claims (name_in w.topic)) (λ x e.
-      each P (λ _. ⊤) refused room _ (any_given room) (λ _ _.
-      each P (λ _. ⊤) refused bound _ (any_given bound) (λ bindings _. given x bindings e)))
-
-  join_own : (gone : List ℕ) (w : Wish) (hs : List Member)
-      → view slot (members_by (act gone (Join w)) hs)
-      ≡ answered_channels (Join w) (answer_to c now tables slot (Join w)) (view slot hs)
-  join_own gone w hs =
-      let P : Checked Channel → Type 0 = λ r.
-      view slot (members_by (join_result_parts now slot gone (join_of w) r) hs)
-      ≡ answered_channels (Join w) (join_answer r) (view slot hs) in
-      wished_so P w (λ why. refl) (λ x bindings e.
-      let ch = channel_wished c now tables slot w x bindings in
-      let new = new_member ch in
-      let with_claims : Claims → List Joined = λ claims.
-      view slot hs ++ record (joined_of new) { claims = claims } ∷ [] in
-      ap (view slot) (rest_same _ (hs ++ new ∷ []) (accepted_rest now gone ch))
-      ∙ ap (map joined_of) (filter-append (is_of_slot slot) hs (new ∷ [])
-      ∙ ap (λ (b : Bool). filter (is_of_slot slot) hs ++ cond b (new ∷ []) []) (eqb_same slot))
-      ∙ map-append joined_of (filter (is_of_slot slot) hs) (new ∷ [])
-      ∙ ap with_claims e)
-
-  join_other : (gone : List ℕ) (w : Wish) (other : ℕ) → other ≢ slot → (hs : List Member)
-      → view other (members_by (act gone (Join w)) hs) ≡ view other hs
-  join_other gone w other differ hs =
-      let P : Checked Channel → Type 0 = λ r.
-      view other (members_by (join_result_parts now slot gone (join_of w) r) hs) ≡ view other hs in
-      wished_so P w (λ why. refl) (λ x bindings e.
-      let ch = channel_wished c now tables slot w x bindings in
-      let new = new_member ch in
-      ap (view other) (rest_same _ (hs ++ new ∷ []) (accepted_rest now gone ch))
-      ∙ ap (map joined_of) (filter-append (is_of_slot other) hs (new ∷ [])
-      ∙ ap (λ (b : Bool). filter (is_of_slot other) hs ++ cond b (new ∷ []) []) (not_slot (slot == other) refl)
-      ∙ append-nil (filter (is_of_slot other) hs)))
-    where
-      not_slot : (b : Bool) → (slot == other) ≡ b → b ≡ false
-      not_slot true k = absurd (differ (sym (eqb-true slot other k)))
-      not_slot false k = refl
-
-  -- a renewal
-  abbrev renewing : ℕ → Standing → Member → Member
-  renewing n x g = renewed (Renews n x ∷ []) g
-
-  by_number : (n : ℕ) (x : Standing) (claims : Claims) (g : Member) (b : Bool) → x.claims ≡ claims
-      → joined_of (with_standing g.channel (first_or g.standing (cons_option (if b then Some x else None) [])))
-      ≡ (if b then record (joined_of g) { claims = claims; send = x.send; track = x.track } else joined_of g)
-  by_number n x claims g true e =
-      ap (λ (k : Claims). record (joined_of g) { claims = k; send = x.send; track = x.track }) e
-  by_number n x claims g false e = refl
-
-  renewed_own : (topic : List ℕ) (h : Member) → IsOn topic h → (x : Standing) (claims : Claims) → x.claims ≡ claims
-      → (hs : List Member) → AreOld hs
-      → view slot (map (renewing h.channel.number x) hs)
-      ≡ map (renewed_for topic claims x.send x.track) (view slot hs)
-  renewed_own topic h on x claims e hs old =
-      let n = h.channel.number in
-      let here = filter (is_of_slot slot) hs in
-      let act_on = renewed_for topic claims x.send x.track in
-      ap (map joined_of) (filter_map_swap (is_of_slot slot) (renewing n x) hs)
-      ∙ map_map joined_of (renewing n x) here
-      ∙ map_alike (λ g. joined_of (renewing n x g)) (λ g. act_on (joined_of g)) here
-      (points here (told_same topic h on hs old))
-      ∙ sym (map_map act_on joined_of here)
-    where
-      points : (gs : List Member)
-          → AllOf (λ (g : Member). (h.channel.number == g.channel.number) ≡ is_on topic g.channel) gs
-          → AllOf (λ (g : Member). joined_of (renewing h.channel.number x g)
-          ≡ renewed_for topic claims x.send x.track (joined_of g)) gs
-      points [] a = tt
-      points (g ∷ gs) a = (
-        by_number h.channel.number x claims g (h.channel.number == g.channel.number) e
-            ∙ ap (λ (b : Bool). if b then record (joined_of g) { claims = claims; send = x.send; track = x.track }
-            else joined_of g) a.0,
-        points gs a.1,
-      )
-
-  renewed_other : (topic : List ℕ) (h : Member) → IsOn topic h → (x : Standing) (other : ℕ) → other ≢ slot
-      → (hs : List Member) → AreOld hs → view other (map (renewing h.channel.number x) hs) ≡ view other hs
-  renewed_other topic h on x other differ hs old =
-      let n = h.channel.number in
-      let here = filter (is_of_slot other) hs in
-      ap (map joined_of) (filter_map_swap (is_of_slot other) (renewing n x) hs)
-      ∙ map_map joined_of (renewing n x) here
-      ∙ map_alike (λ g. joined_of (renewing n x g)) joined_of here
-      (points here (apart_from topic h on other differ hs old))
-    where
-      points : (gs : List Member) → AllOf (λ (g : Member). (h.channel.number == g.channel.number) ≡ false) gs
-          → AllOf (λ (g : Member). joined_of (renewing h.channel.number x g) ≡ joined_of g) gs
-      points [] a = tt
-      points (g ∷ gs) a = (
-        by_number h.channel.number x x.claims g (h.channel.number == g.channel.number) refl
-            ∙ ap (λ (b : Bool). if b then record (joined_of g) { claims = x.claims; send = x.send; track = x.track }
-            else joined_of g) a.0,
-        points gs a.1,
-      )
-
-  renewal_own : (gone topic : List ℕ) (claims : Claims) (hs : List Member) → AreOld hs → (h : Member) → IsOn topic h
-      → (r : Checked Standing) → Gives (λ (x : Standing). x.claims ≡ claims) r
-      → view slot (members_by (renew_at now gone r h) hs)
-      ≡ answered_channels (Renew topic claims) (renewal_answer r) (view slot hs)
-  renewal_own gone topic claims hs old h on (Ok x) e = renewed_own topic h on x claims e hs old
-  renewal_own gone topic claims hs old h on (Err why) e =
-      ap (view slot) (departed gone h hs) ∙ gone_own topic h on hs old
-
-  renewal_other : (gone topic : List ℕ) (other : ℕ) → other ≢ slot → (hs : List Member) → AreOld hs → (h : Member)
-      → IsOn topic h → (r : Checked Standing)
-      → view other (members_by (renew_at now gone r h) hs) ≡ view other hs
-  renewal_other gone topic other differ hs old h on (Ok x) = renewed_other topic h on x other differ hs old
-  renewal_other gone topic other differ hs old h on (Err why) =
-      ap (view other) (departed gone h hs) ∙ gone_other topic h on other differ hs old
-
-  renewing_own : (gone topic : List ℕ) (claims : Claims) (hs : List Member) → AreOld hs → (o : Option Member)
-      → channel_on now slot topic ≡ o → Maybe (IsOn topic) o
-      → view slot (members_by (at_channel (λ h. renew_at now gone (standing_by c now tables claims h.channel) h) o) hs)
-      ≡ answered_channels (Renew topic claims) (renewal_for (standing_by c now tables claims) o) (view slot hs)
-  renewing_own gone topic claims hs old None e on = sym (none_on topic e hs old)
-  renewing_own gone topic claims hs old (Some h) e on =
-      renewal_own gone topic claims hs old h on (standing_by c now tables claims h.channel)
-      (renewal_claims c tables claims now h.channel)
-
-  renewing_other : (gone topic : List ℕ) (claims : Claims) (other : ℕ) → other ≢ slot → (hs : List Member) → AreOld hs
-      → (o : Option Member) → Maybe (IsOn topic) o
-      → view other (members_by (at_channel (λ h. renew_at now gone (standing_by c now tables claims h.channel) h) o) hs)
-      ≡ view other hs
-  renewing_other gone topic claims other differ hs old None on = refl
-  renewing_other gone topic claims other differ hs old (Some h) on =
-      renewal_other gone topic other differ hs old h on (standing_by c now tables claims h.channel)
-
-  -- what waits for an answer
-  pub wish_own : (gone : List ℕ) (w : Effect) → IsWish w → (hs : List Member) → AreOld hs
-      → view slot (members_by (act gone w) hs)
-      ≡ answered_channels w (answer_to c now tables slot w) (view slot hs)
-  wish_own gone (Say m) a hs old = absurd a
-  wish_own gone (Join w) a hs old = join_own gone w hs
-  wish_own gone (Renew topic claims) a hs old =
-      renewing_own gone topic claims hs old (channel_on now slot topic) refl (found_on topic)
-  wish_own gone (Leave topic) a hs old = absurd a
-  wish_own gone (Close topic) a hs old = absurd a
-  wish_own gone (Broadcast topic payload) a hs old = absurd a
-  wish_own gone (Track topic tree) a hs old = absurd a
-  wish_own gone (Untrack topic) a hs old = absurd a
-  wish_own gone (End name) a hs old = absurd a
-
-  pub wish_other : (gone : List ℕ) (w : Effect) → IsWish w → (other : ℕ) → other ≢ slot → (hs : List Member)
-      → AreOld hs → view other (members_by (act gone w) hs) ≡ view other hs
-  wish_other gone (Say m) a other differ hs old = absurd a
-  wish_other gone (Join w) a other differ hs old = join_other gone w other differ hs
-  wish_other gone (Renew topic claims) a other differ hs old =
-      renewing_other gone topic claims other differ hs old (channel_on now slot topic) (found_on topic)
-  wish_other gone (Leave topic) a other differ hs old = absurd a
-  wish_other gone (Close topic) a other differ hs old = absurd a
-  wish_other gone (Broadcast topic payload) a other differ hs old = absurd a
-  wish_other gone (Track topic tree) a other differ hs old = absurd a
-  wish_other gone (Untrack topic) a other differ hs old = absurd a
-  wish_other gone (End name) a other differ hs old = absurd a
-
-  -- a wish opens and ends no slot
-  joined_spares : (gone : List ℕ) (m : Message) (any : ℕ) (r : Checked Channel)
-      → AllOf (Spares any) (join_result_parts now slot gone m r)
-  joined_spares gone m any (Ok ch) =
-      let told = tell_if (has_bindings ch) ch.slot (subscribed_message ch)
-      ++ tell_if ch.presence ch.slot (presence_state ch (present_on now gone ch.topic)) in
-      (tt, (tt, all_dropping_spare any told (all_resting_drop told (accepted_rest now gone ch))))
-  joined_spares gone m any (Err why) = (tt, tt)
-
-  renewed_spares : (gone : List ℕ) (any : ℕ) (h : Member) (r : Checked Standing)
-      → AllOf (Spares any) (renew_at now gone r h)
-  renewed_spares gone any h (Ok x) = (tt, tt)
-  renewed_spares gone any h (Err why) =
-      (tt, (tt, all_dropping_spare any (depart now gone h) (departs_drops now gone h)))
-
-  pub wish_spares : (gone : List ℕ) (w : Effect) → IsWish w → (any : ℕ) → AllOf (Spares any) (act gone w)
-  wish_spares gone (Say m) a any = absurd a
-  wish_spares gone (Join w) a any = joined_spares gone (join_of w) any (channel_of_wish c now tables slot w)
-  wish_spares gone (Renew topic claims) a any =
-      at_one (Spares any) (λ h. renew_at now gone (standing_by c now tables claims h.channel) h)
-      (λ h. renewed_spares gone any h (standing_by c now tables claims h.channel)) (channel_on now slot topic)
-  wish_spares gone (Leave topic) a any = absurd a
-  wish_spares gone (Close topic) a any = absurd a
-  wish_spares gone (Broadcast topic payload) a any = absurd a
-  wish_spares gone (Track topic tree) a any = absurd a
-  wish_spares gone (Untrack topic) a any = absurd a
-  wish_spares gone (End name) a any = absurd a

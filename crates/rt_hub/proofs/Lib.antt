@@ -12,3 +12,4 @@ mod Taking
 mod Ticking
 mod Turns
 mod Views
+mod Wishes

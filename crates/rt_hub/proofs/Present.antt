@@ -159,7 +159,8 @@ module _ (now : Now) (fine : HasOwnTracks now) where
 
   -- a member's track is told from the others by its channel alone
   pub alike : (h : Member) → Among now.members h
-      → AllOf (λ (t : Track). is_of h.channel.topic h.channel.number (tracked_of t) ≡ (t.channel == h.channel.number)) ts
+      → AllOf (λ (t : Track). is_of h.channel.topic h.channel.number (tracked_of t)
+      ≡ (t.channel == h.channel.number)) ts
   alike h at =
       let n = h.channel.number in
       let topic = h.channel.topic in

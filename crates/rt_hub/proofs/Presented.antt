@@ -213,7 +213,8 @@ all_put_of : (D : Tracked → Type 0) (ts : List Track) (us : List Tracked) → 
     → AllOf D us → AllOf D (all_put ts us)
 all_put_of D [] us a b = b
 all_put_of D (t ∷ ts) us a b =
-    all_put_of D ts (put (tracked_of t) us) a.1 (places.all_put [] (place_of (tracked_of t).0) D (tracked_of t) us a.0 b)
+    let new = tracked_of t in
+    all_put_of D ts (put new us) a.1 (places.all_put [] (place_of new.0) D new us a.0 b)
 
 module _ (now : Now) (fine : HasOwnTracks now) where
   abbrev ts : List Track
@@ -315,7 +316,8 @@ module _ (c : Catalog) (s : Settings) where
       (presence_of (now_of st).tracks)
   unfolding after now_of
   presents_shaped st i h fine =
-      shape_presents (now_of st) fine (fine_for i) (doings c s (now_of st) (tables_left c st i) i) (shape_next c s st i h)
+      shape_presents (now_of st) fine (fine_for i) (doings c s (now_of st) (tables_left c st i) i)
+      (shape_next c s st i h)
 
   pub presence_follows : PresenceFollows c s
   presence_follows journal i =

@@ -56,9 +56,11 @@ steady_at : (t u : Tracked) (us : List Tracked) (o : Ordering) → track_cmp t.0
 steady_at t u us Less e s m =
     ((not_above t u e, all_weaker (IsBelow t) (NotAbove t) us (not_above t) (below_all t u us e s.0)), s)
 steady_at t u us Equal e s m =
-    (places.all_put [] (place_of t.0) (NotAbove u) t us (λ g. let z : Equal ≡ Greater = sym (turned t u Equal e) ∙ g in cc) s.0, m)
+    let not_back : NotAbove u t = λ g. let z : Equal ≡ Greater = sym (turned t u Equal e) ∙ g in cc in
+    (places.all_put [] (place_of t.0) (NotAbove u) t us not_back s.0, m)
 steady_at t u us Greater e s m =
-    (places.all_put [] (place_of t.0) (NotAbove u) t us (λ g. let z : Less ≡ Greater = sym (turned t u Greater e) ∙ g in cc) s.0, m)
+    let not_back : NotAbove u t = λ g. let z : Less ≡ Greater = sym (turned t u Greater e) ∙ g in cc in
+    (places.all_put [] (place_of t.0) (NotAbove u) t us not_back s.0, m)
 
 pub steady_put : (t : Tracked) (us : List Tracked) → Steady us → Steady (put t us)
 steady_put t [] s = (tt, tt)

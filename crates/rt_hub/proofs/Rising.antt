@@ -1,5 +1,5 @@
--- Two lists in the order of an asymmetric relation with the same elements are one; so keys in order are one, in whatever
--- order they came.
+-- Two lists in the order of an asymmetric relation with the same elements are one; so keys in order are one, in
+-- whatever order they came.
 use Rattle.std.proofs.Common.{◌≡◌, ℕ, true, List, [], ◌∷◌, refl, sym, ap, subst, ◌∙◌, inl, inr}
 use Rattle.std.specs.Prelude.{⊤}
 use Rattle.std.specs.List.{list_any}

@@ -38,7 +38,8 @@ use Rattle.rt_hub.specs.Doing.{asked, parts_of_effects}
 use Rattle.rt_hub.specs.Registered.{members_by}
 use Rattle.rt_hub.specs.Taking.{answer_to, settled, HasOwnChannels, JournalsHaveOwnChannels, asked_by, FramesAreTaken}
 use Rattle.rt_hub.specs.Taking.{FramesLeaveOthers}
-use Rattle.rt_hub.proofs.Acts.{act, AreOld, drops, once_own, once_other, wish_own, wish_other, wish_spares}
+use Rattle.rt_hub.proofs.Acts.{act, AreOld, drops, once_own, once_other}
+use Rattle.rt_hub.proofs.Wishes.{wish_own, wish_other, wish_spares}
 use Rattle.rt_hub.proofs.Effects.{frames_done}
 use Rattle.rt_hub.proofs.Forms.{AtOnce, IsWish, Form, shuts, done, waits, form_frame}
 use Rattle.rt_hub.proofs.Turns.{members_append}
@@ -219,7 +220,8 @@ module _ (c : Catalog) (now : Now) (tables : List (List Row)) (slot : ℕ) (own 
         let spares : AllOf (Spares slot) (ps ++ f r.0 w) =
         all_append (Spares slot) ps (f r.0 w) (all_dropping_spare slot ps (all_drop gone front a))
         (wish_spares c now tables slot own r.0 w k slot) in
-        ap (λ (qs : List Part). option_map (held_by c (view slot (members_by qs hs))) (opened_after slot qs (Some o))) r.1
+        ap (λ (qs : List Part). option_map (held_by c (view slot (members_by qs hs)))
+        (opened_after slot qs (Some o))) r.1
         ∙ ap (option_map (held_by c (view slot (members_by (ps ++ f r.0 w) hs))))
         (spared slot (ps ++ f r.0 w) (Some o) spares)
         ∙ ap (λ (ks : List Joined). Some (held_by c ks o))
@@ -280,7 +282,8 @@ module _ (c : Catalog) (now : Now) (tables : List (List Row)) (slot : ℕ) (own 
           let P : List Part → Type 0 = λ qs. AllOf (Spares other) qs in
           record {
             channels = ap (λ (qs : List Part). view other (members_by qs hs)) r.1
-                ∙ ap (view other) (members_append ps (Ends slot name ∷ []) hs) ∙ all_other other differ gone front a hs old;
+                ∙ ap (view other) (members_append ps (Ends slot name ∷ []) hs)
+                ∙ all_other other differ gone front a hs old;
             spares = subst P (sym r.1) (all_append (Spares other) ps (Ends slot name ∷ [])
                 (all_dropping_spare other ps (all_drop gone front a)) (not_slot (slot == other) refl, tt));
           }
@@ -298,7 +301,8 @@ module _ (c : Catalog) (now : Now) (tables : List (List Row)) (slot : ℕ) (own 
                 (still_all (Among now.members) ps hs (all_drop gone front a) old)
                 ∙ all_other other differ gone front a hs old;
             spares = subst P (sym r.1) (all_append (Spares other) ps (f r.0 w)
-                (all_dropping_spare other ps (all_drop gone front a)) (wish_spares c now tables slot own r.0 w k other));
+                (all_dropping_spare other ps (all_drop gone front a))
+                (wish_spares c now tables slot own r.0 w k other));
           }
 
       pub leaves_all : {may : Bool} (es : List Effect) → Form may es → Leaves es

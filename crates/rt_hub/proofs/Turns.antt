@@ -90,7 +90,8 @@ one_renewal : (n : ℕ) (x : Standing) (hs : List Member)
 one_renewal n x hs =
     let ps = Renews n x ∷ [] in
     append-nil (map (renewed ps) (filter (remains ps) hs))
-    ∙ ap (map (renewed ps)) (filter_all (remains ps) hs (all_every (λ (h : Member). remains ps h ≡ true) hs (λ h. refl)))
+    ∙ ap (map (renewed ps)) (filter_all (remains ps) hs
+    (all_every (λ (h : Member). remains ps h ≡ true) hs (λ h. refl)))
 
 -- parts that let only depart
 plain_turn : (hs : List Member) (ps : List Part) → AllOf Lets ps → AllOf Renewless ps → joins_of ps ≡ []

@@ -113,7 +113,8 @@ still_all B ps hs d a =
     subst P (sym (let_go ps hs (all_weaker Dropping Lets ps dropping_lets d))) (all_filter B (remains ps) hs a)
 
 -- openings
-pub spared : (slot : ℕ) (ps : List Part) (old : Option Opening) → AllOf (Spares slot) ps → opened_after slot ps old ≡ old
+pub spared : (slot : ℕ) (ps : List Part) (old : Option Opening) → AllOf (Spares slot) ps
+    → opened_after slot ps old ≡ old
 spared slot [] old a = refl
 spared slot (Opens s o ∷ ps) old a =
     ap (λ (b : Bool). opened_after slot ps (if b then Some o else old)) a.0 ∙ spared slot ps old a.1

@@ -46,10 +46,10 @@ pub fn presence_follows()
     ensures { (c : CatalogData) (s : SettingsData) → PresenceFollows c s }
 {}
 
-/// The socket of a slot behind a frame is the one that took it, once the join or the renewal that it
-/// waits for is answered, and every other slot's is what it was; behind a tick each is the one that
-/// took it. So it is where channels are told by their numbers and their topics, as behind every
-/// journal.
+/// The socket of a slot behind a frame is the one that took it, once the join or the renewal that
+/// it waits for is answered, and every other slot's is what it was; behind a tick each is the one
+/// that took it. So it is where channels are told by their numbers and their topics, as behind
+/// every journal.
 pub fn sockets_follow()
     ensures apart { (c : CatalogData) (s : SettingsData) → JournalsHaveOwnChannels c s }
     ensures frames { (c : CatalogData) (s : SettingsData) → FramesAreTaken c s }
