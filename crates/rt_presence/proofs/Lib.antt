@@ -1,4 +1,3 @@
-pub mod Entries
 pub mod Orders
 pub mod Places
 pub mod Puts

@@ -14,8 +14,8 @@ use Rattle.rt_json.specs.declared.tree.Json.{Json}
 use Rattle.rt_presence.specs.declared.tracks.TrackKey.{TrackKey}
 use Rattle.rt_presence.specs.declared.tracks.Place.{Place}
 use Rattle.rt_presence.specs.Tracks.{Tracked, track_cmp, place_cmp, is_of, put, track_of}
-use Rattle.rt_presence.specs.Index.{IsIndexed, place_of, value_at}
-use Rattle.rt_presence.proofs.Entries.{IsRising, Updates, without_key}
+use Rattle.rt_presence.specs.Index.{IsIndexed, place_of}
+use Rattle.rt_ptree.specs.Entries.{IsRising, Updates, value_at, without_key}
 use Rattle.rt_presence.proofs.Orders.{track_exact, place_exact, is_eq_true, of_place, at_place, of_is, told}
 
 kept : {A : Type 0} (D : A → Type 0) (x : A) (xs : List A) (b : Bool) → (b ≡ true → D x) → AllOf D xs

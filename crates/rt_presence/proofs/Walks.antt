@@ -1,5 +1,5 @@
 -- A walk over a topic's tracks, from the first that may be there on.
-use Rattle.std.proofs.Common.{◌≡◌, ◌⊎◌, ℕ, ◌<◌, Bool, true, false, cond, not, List, [], ◌∷◌, map, refl, ap, sym, ◌∙◌}
+use Rattle.std.proofs.Common.{◌≡◌, ◌⊎◌, ℕ, ◌<◌, Bool, true, false, cond, List, [], ◌∷◌, map, refl, ap, sym, ◌∙◌}
 use Rattle.std.proofs.Common.{arith, inl, inr}
 use Rattle.std.specs.Prelude.{filter}
 use Rattle.std.specs.declared.cmp.Ordering.{Ordering}
@@ -13,7 +13,8 @@ use Rattle.std.proofs.lemmas.Cmp.{nat_list_cmp_total, ranked, tied_itself}
 use Rattle.std.proofs.lemmas.Map.Lookups.{exact_bytes}
 use Rattle.std.proofs.lemmas.Slice.Eq.{bytes_eq-Decides}
 use Rattle.rt_value.proofs.Plain.{AllOf}
-use Rattle.rt_presence.proofs.Entries.{IsRising, entries_from}
+use Rattle.rt_ptree.specs.Entries.{IsRising}
+use Rattle.rt_ptree.specs.Walk.{entries_from}
 use Rattle.rt_presence.specs.declared.tracks.TrackKey.{TrackKey}
 use Rattle.rt_presence.specs.Tracks.{Tracked, track_cmp}
 use Rattle.rt_presence.specs.Index.{least_on}

@@ -1,19 +1,13 @@
 -- The tracks by topic and channel.
-use Rattle.std.specs.Prelude.{◌≡◌, ℕ, List, [], Option, Some, IsSome, IfSome}
-use Rattle.std.specs.declared.cmp.Ordering.{Ordering}
-use Rattle.std.specs.BTreeMap.{is_at}
+use Rattle.std.specs.Prelude.{◌≡◌, ℕ, List, [], Some, IsSome, IfSome}
 use Rattle.std.specs.List.{AllByRecursion}
-use Rattle.std.specs.Map.{lookup}
+use Rattle.rt_ptree.specs.Entries.{value_at}
 use Rattle.rt_presence.specs.declared.tracks.TrackKey.{TrackKey}
 use Rattle.rt_presence.specs.declared.tracks.Place.{Place}
 use Rattle.rt_presence.specs.Tracks.{Tracked, track_cmp, place_cmp, track_at}
 
 abbrev pub place_of : TrackKey → Place
 place_of t = record { topic = t.topic; channel = t.channel }
-
--- the value at the key k
-abbrev pub value_at : {K V : Type 0} → (K → K → Ordering) → List (K × V) → K → Option V
-value_at cmp es k = lookup (is_at (cmp k)) es
 
 -- each track is found at its place, and what is found at a place is a track of it that stands
 pub record IsIndexed (tracks : List Tracked) (places : List (Place × TrackKey)) : Type 0 where

@@ -1,124 +1,90 @@
-//! The maps that keep who is present. A change of both leaves the tracks as they were where memory
-//! runs out.
+//! The maps that keep who is present. A change of both leaves them as they were where memory runs
+//! out: one of them is changed as a snapshot, which is put in its place when the other is changed.
 ghost use Rattle.std.specs.Prelude.{◌≡◌, IfOk, OnOk, OnErr};
+ghost use Rattle.std.specs.Arc.{arc_value};
 ghost use Rattle.std.specs.BTreeMap.{insert_entry};
+ghost use Rattle.rt_ptree.specs.Entries.{Updates};
 ghost use Rattle.rt_presence.specs.Tracks.{without_channel, with_track};
 ghost use Rattle.rt_presence.specs.Index.{IsIndexed, place_of};
 
 use crate::tracks::{Place, TrackKey};
 use rt_json::Json;
-use std::alloc::{AllocError, Global};
-use std::collections::BTreeMap;
+use rt_ptree::Tree;
+use rt_value::Shared;
+use std::alloc::AllocError;
+use std::sync::Arc;
 
-/// The tree of each track.
-pub type Tracks = BTreeMap<TrackKey, Json>;
+/// The tree of each track, which all share who are told it.
+pub type Tracks = Tree<TrackKey, Shared<Json>>;
 
 /// The track of each channel on each topic.
-pub type Places = BTreeMap<Place, TrackKey>;
-
-/// What is copied with memory of a given allocator.
-pub trait Copies: Drop {
-    fn copied(&self, alloc: Global) -> Result<Self, AllocError>
-        ensures { IfOk result (λ x. x ≡ self.now) };
-}
-
-impl Copies for Json {
-    fn copied(&self, alloc: Global) -> Result<Self, AllocError> {
-        self.copy(alloc)
-    }
-}
-
-impl Copies for TrackKey {
-    fn copied(&self, alloc: Global) -> Result<Self, AllocError> {
-        Ok(TrackKey {
-            topic: self.topic.copy(alloc)?,
-            key: self.key.copy(alloc)?,
-            reference: self.reference,
-            channel: self.channel,
-        })
-    }
-}
-
-impl Copies for Place {
-    fn copied(&self, alloc: Global) -> Result<Self, AllocError> {
-        Ok(Place {
-            topic: self.topic.copy(alloc)?,
-            channel: self.channel,
-        })
-    }
-}
+pub type Places = Tree<Place, TrackKey>;
 
 fn insert<K: Ord + Drop, V: Drop>(
-    map: &mut BTreeMap<K, V>,
-    key: K,
-    value: V,
+    map: &mut Tree<K, V>,
+    key: Arc<K>,
+    value: Arc<V>,
 ) -> Result<(), AllocError>
-    ensures { OnOk result (map.new.entries ≡ insert_entry K.cmp map.old.entries key value) }
+    ensures ok { OnOk result
+        (map.new ≡ insert_entry K.cmp map.old (arc_value key) (arc_value value)) }
+    ensures updates { OnOk result
+        (Updates K.cmp map.old map.new (arc_value key) (Some (arc_value value))) }
+    ensures err { OnErr result (map.new ≡ map.old) }
 {
     match map.insert(key, value) {
-        Ok(_) => Ok(()),
+        Ok(()) => Ok(()),
         Err(_) => Err(AllocError),
     }
 }
 
-/// A map with the same entries.
-pub fn copied<K: Ord + Copies, V: Copies>(
-    alloc: Global,
-    map: &BTreeMap<K, V>,
-) -> Result<BTreeMap<K, V>, AllocError>
-    ensures { IfOk result (λ copy. copy.entries ≡ map.now.entries) }
-{
-    let mut copy = BTreeMap::new(alloc);
-    for (key, value) in map {
-        insert(&mut copy, key.copied(alloc)?, value.copied(alloc)?)?;
-    }
-    Ok(copy)
-}
-
-/// Takes the channel's track on the topic out.
-pub fn take(tracks: &mut Tracks, places: &mut Places, place: &Place)
-    requires { IsIndexed tracks.old.entries places.old.entries }
-    ensures tracks { tracks.new.entries
-        ≡ without_channel tracks.old.entries place.now.topic place.now.channel }
-    ensures index { IsIndexed tracks.new.entries places.new.entries }
+// The tracks but for the channel's on the topic.
+fn others(tracks: &Tracks, places: &Places, place: &Place) -> Result<Tracks, AllocError>
+    requires { IsIndexed tracks.now places.now }
+    ensures { IfOk result (λ others.
+        others ≡ without_channel tracks.now place.now.topic place.now.channel) }
 {
     // A map's length tells a proof that its keys rise.
     let _len = tracks.len();
-    if let Some(track) = places.remove(place) {
-        tracks.remove(&track);
+    let mut others = tracks.snapshot()?;
+    if let Some(track) = places.get(place) {
+        others.remove(track)?;
     }
+    Ok(others)
 }
 
-/// Puts the track in, in place of the channel's on the topic. `held` is a copy of it.
+/// Takes the channel's track on the topic out.
+pub fn take(tracks: &mut Tracks, places: &mut Places, place: &Place) -> Result<(), AllocError>
+    requires { IsIndexed tracks.old places.old }
+    ensures ok { OnOk result
+        (tracks.new ≡ without_channel tracks.old place.now.topic place.now.channel) }
+    ensures err { OnErr result (tracks.new ≡ tracks.old) }
+    ensures index { IsIndexed tracks.new places.new }
+{
+    let left = others(tracks, places, place)?;
+    places.remove(place)?;
+    *tracks = left;
+    Ok(())
+}
+
+/// Puts the track in, in place of the channel's on the topic.
 pub fn put(
     tracks: &mut Tracks,
     places: &mut Places,
-    place: Place,
-    track: TrackKey,
-    held: TrackKey,
-    tree: Json,
+    place: Arc<Place>,
+    track: Arc<TrackKey>,
+    tree: Arc<Shared<Json>>,
 ) -> Result<(), AllocError>
-    requires index { IsIndexed tracks.old.entries places.old.entries }
-    requires place { place ≡ place_of track }
-    requires held { held ≡ track }
-    ensures ok { OnOk result (tracks.new.entries ≡ with_track tracks.old.entries (track, tree)) }
-    ensures err { OnErr result (tracks.new.entries ≡ tracks.old.entries) }
-    ensures index { IsIndexed tracks.new.entries places.new.entries }
+    requires index { IsIndexed tracks.old places.old }
+    requires place { arc_value place ≡ place_of (arc_value track) }
+    ensures ok { OnOk result
+        (tracks.new ≡ with_track tracks.old (arc_value track, arc_value tree)) }
+    ensures err { OnErr result (tracks.new ≡ tracks.old) }
+    ensures index { IsIndexed tracks.new places.new }
 {
-    match tracks.insert(track, tree) {
-        Err(_) => Err(AllocError),
-        // The same track stood, with another tree.
-        Ok(Some(_)) => Ok(()),
-        Ok(None) => match places.insert(place, held) {
-            Ok(None) => Ok(()),
-            Ok(Some(former)) => {
-                tracks.remove(&former);
-                Ok(())
-            }
-            Err(failed) => {
-                tracks.remove(&failed.value.1);
-                Err(AllocError)
-            }
-        },
-    }
+    let mut changed = others(tracks, places, &place)?;
+    let held = Arc::try_clone(&track)?;
+    insert(&mut changed, track, tree)?;
+    insert(places, place, held)?;
+    *tracks = changed;
+    Ok(())
 }

@@ -5,14 +5,15 @@ ghost use Rattle.rt_presence.specs.Index.{least_on};
 ghost use Rattle.rt_presence.specs.Trees.{held_of, on_topic, state_tree, groups_of};
 
 use crate::differences::{Diff, Meta};
-use crate::maps::{Copies, Places, Tracks, copied, put, take};
+use crate::maps::{Places, Tracks, put, take};
 use crate::tracks::{Place, TrackKey};
 use crate::trees::{Group, groups_tree, meta_object, put_last};
 use rt_json::Json;
-use rt_value::Text;
+use rt_ptree::Tree;
+use rt_value::{Shared, Text};
 use std::alloc::{AllocError, Global};
-use std::collections::BTreeMap;
 use std::marker::Model;
+use std::sync::Arc;
 
 /// Who is present on each topic. A channel has at most one track on a topic.
 ///
@@ -35,9 +36,9 @@ impl Model for Presence {
 
     ghost coded = { Prim.hlevel (codes, tree.the_row.coded) };
 
-    ghost view = { λ p. p.tracks.entries };
+    ghost view = { λ p. p.tracks };
 
-    ghost invariant = { λ p. IsIndexed p.tracks.entries p.places.entries };
+    ghost invariant = { λ p. IsIndexed p.tracks p.places };
 }
 
 impl Presence {
@@ -46,26 +47,26 @@ impl Presence {
         ensures { result ≡ [] }
     {
         Presence {
-            tracks: BTreeMap::new(alloc),
-            places: BTreeMap::new(alloc),
+            tracks: Tree::new(alloc),
+            places: Tree::new(alloc),
             alloc,
         }
     }
 
-    /// An equal value, of which a change leaves this one as it is. Copies every track with its
-    /// tree, so its time is that of putting in as many tracks. Fails for want of memory alone.
+    /// An equal value, of which a change leaves this one as it is. The two share their tracks, so
+    /// its time doesn't depend on how many there are. Fails for want of memory alone.
     pub fn copy(&self) -> Result<Self, AllocError>
         ensures { IfOk result (λ p. p ≡ self.now) }
     {
         Ok(Presence {
-            tracks: copied(self.alloc, &self.tracks)?,
-            places: copied(self.alloc, &self.places)?,
+            tracks: self.tracks.snapshot()?,
+            places: self.places.snapshot()?,
             alloc: self.alloc,
         })
     }
 
     // The channel's track on the topic.
-    fn find(&self, place: &Place) -> Option<(&TrackKey, &Json)>
+    fn find(&self, place: &Place) -> Option<(&TrackKey, &Shared<Json>)>
         ensures { option_map (λ t. (t.0.now, t.1.now)) result
             ≡ track_of self.now place.now.topic place.now.channel }
     {
@@ -88,13 +89,13 @@ impl Presence {
         })
     }
 
-    fn meta(&self, track: &TrackKey, tree: &Json) -> Result<Meta, AllocError>
+    fn meta(&self, track: &TrackKey, tree: &Shared<Json>) -> Result<Meta, AllocError>
         ensures { IfOk result (λ m. m ≡ meta_of (track.now, tree.now)) }
     {
         Ok(Meta {
             reference: track.reference,
             channel: track.channel,
-            tree: tree.copy(self.alloc)?,
+            tree: tree.copy()?,
         })
     }
 
@@ -108,7 +109,12 @@ impl Presence {
         }
     }
 
-    fn joining(&self, place: &Place, track: &TrackKey, tree: &Json) -> Result<Diff, AllocError>
+    fn joining(
+        &self,
+        place: &Place,
+        track: &TrackKey,
+        tree: &Shared<Json>,
+    ) -> Result<Diff, AllocError>
         ensures { IfOk result (λ d.
             d ≡ joining (track.now, tree.now)
             (track_of self.now place.now.topic place.now.channel)) }
@@ -122,7 +128,7 @@ impl Presence {
         })
     }
 
-    fn leaving(&self, track: &TrackKey, tree: &Json) -> Result<Diff, AllocError>
+    fn leaving(&self, track: &TrackKey, tree: &Shared<Json>) -> Result<Diff, AllocError>
         ensures { IfOk result (λ d. d ≡ leaving (track.now, tree.now)) }
     {
         let left = self.meta(track, tree)?;
@@ -160,9 +166,12 @@ impl Presence {
             reference,
             channel,
         };
-        let held = track.copied(self.alloc)?;
+        let tree = Shared::new(Arc::new(self.alloc, tree)?);
         let difference = self.joining(&place, &track, &tree)?;
-        put(&mut self.tracks, &mut self.places, place, track, held, tree)?;
+        let place = Arc::new(self.alloc, place)?;
+        let track = Arc::new(self.alloc, track)?;
+        let tree = Arc::new(self.alloc, tree)?;
+        put(&mut self.tracks, &mut self.places, place, track, tree)?;
         Ok(difference)
     }
 
@@ -178,11 +187,11 @@ impl Presence {
     {
         let place = self.place(topic, channel)?;
         let difference = match self.find(&place) {
-            None => None,
-            Some((track, tree)) => Some(self.leaving(track, tree)?),
+            None => return Ok(None),
+            Some((track, tree)) => self.leaving(track, tree)?,
         };
-        take(&mut self.tracks, &mut self.places, &place);
-        Ok(difference)
+        take(&mut self.tracks, &mut self.places, &place)?;
+        Ok(Some(difference))
     }
 
     /// The channel departs from the topic. Answers what leaves; None exactly where the channel
@@ -214,13 +223,15 @@ impl Presence {
         ensures { IfOk result (λ groups.
             groups.items ≡ groups_of (map held_of (on_topic topic.now self.now))) }
     {
+        // A map's length tells a proof that its keys rise.
+        let _len = self.tracks.len();
         let least = self.least_on(topic)?;
         let mut groups = Vec::new(self.alloc);
-        for (track, tree) in self.tracks.range(&least..) {
+        for (track, tree) in self.tracks.entries_from(&least) {
             if track.topic.get() != topic.get() {
                 break;
             }
-            let meta = meta_object(self.alloc, track.reference, tree)?;
+            let meta = meta_object(self.alloc, track.reference, tree.get())?;
             put_last(self.alloc, &mut groups, &track.key, meta)?;
         }
         Ok(groups)

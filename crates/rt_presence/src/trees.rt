@@ -200,7 +200,7 @@ fn put_held(
         ≡ out.old.items ++ option_to_list (option_map (under key.now) meta.now)) }
 {
     if let Some(meta) = meta {
-        let tree = meta_object(alloc, meta.reference, &meta.tree)?;
+        let tree = meta_object(alloc, meta.reference, meta.tree.get())?;
         out.push((key.copy(alloc)?, tree))?;
     }
     Ok(())
