@@ -51,12 +51,16 @@ is_text _ = false
 abbrev pub text_column : Table → List ℕ → Option ℕ
 text_column t name = option_map (λ c. c.0) (find (λ c. bytes_eq c.1.name name && is_text c.1.kind) (enumerate_from 0 t.columns))
 
-abbrev pub messages_at : Catalog → ℕ → Option Messages
-messages_at c n =
-    text_column (table_at c n) (codes "topic") >>= λ topic.
-    text_column (table_at c n) (codes "extension") >>= λ extension.
-    text_column (table_at c n) (codes "action") >>= λ action.
+-- the messages table that a table of this number is, where it has the three columns
+abbrev pub messages_in : Table → ℕ → Option Messages
+messages_in t n =
+    text_column t (codes "topic") >>= λ topic.
+    text_column t (codes "extension") >>= λ extension.
+    text_column t (codes "action") >>= λ action.
     Some (record { table = n; topic = topic; extension = extension; action = action })
+
+abbrev pub messages_at : Catalog → ℕ → Option Messages
+messages_at c n = messages_in (table_at c n) n
 
 -- the messages table, where the catalogue has one
 unfoldable pub messages_of : Catalog → Option Messages

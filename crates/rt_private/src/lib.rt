@@ -2,6 +2,14 @@
 //! channel authorization, in this project's profile).
 #![tactic(auto)]
 
+mod access;
+mod asked;
+mod finding;
+mod judging;
+pub mod laws;
 mod right;
+mod row;
 
+pub use finding::find;
+pub use judging::rights;
 pub use right::{Messages, Right, Rights};
