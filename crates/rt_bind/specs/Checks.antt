@@ -1,0 +1,38 @@
+-- What is refused, in its order, apart from what the change is.
+use Rattle.std.specs.Prelude.{Bool, true, false, ◌&&◌, not, List, [], ◌∷◌, Option, Some, None, Result, Ok, Err}
+use Rattle.std.specs.Str.{bytes_eq}
+use Rattle.rt_value.specs.declared.value.Value.{Value}
+use Rattle.rt_value.specs.Choice.{some_if}
+use Rattle.rt_json.specs.declared.tree.Json.{Json}
+use Rattle.rt_wal.specs.declared.records.Record.{Record}
+use Rattle.rt_wal.specs.declared.records.Field.{Field}
+use Rattle.rt_catalog.specs.declared.catalog.Table.{Table}
+use Rattle.rt_catalog.specs.declared.catalog.Column.{Column}
+use Rattle.rt_change.specs.declared.change.Verb.{Verb}
+use Rattle.rt_change.specs.declared.fault.ChangeFault.{ChangeFault}
+use Rattle.rt_change.specs.declared.fault.ChangeFault.TheVariants.{KeyDiffers}
+use Rattle.rt_change.specs.Binding.{◌>>◌, or_fault, keys_differ, fields_fit, used, key_given, face}
+
+-- the answer of checks whose first fault is this
+abbrev pub unless : Option ChangeFault → Result Bool ChangeFault
+unless None = Ok true
+unless (Some fault) = Err fault
+
+-- a record's checks, with the new cells that it gives
+abbrev pub checks : Verb → Table → Record → List (Option Value) → Result Bool ChangeFault
+checks verb t r new =
+    or_fault KeyDiffers (some_if (not (keys_differ verb t r)) r) >> λ _.
+    fields_fit t (used verb r.columns) >> λ _.
+    fields_fit t (used verb r.identity) >> λ _.
+    key_given verb t new
+
+-- the fields are the columns, one after another
+abbrev pub are_straight : List Column → List Field → Bool
+are_straight [] [] = true
+are_straight (col ∷ columns) (f ∷ fields) = bytes_eq f.name col.name && are_straight columns fields
+are_straight _ _ = false
+
+-- how the fields are shown, each in the column at its place
+abbrev pub faces_in_turn : List Column → List Field → List (Option Json)
+faces_in_turn (col ∷ columns) (f ∷ fields) = Some (face col.kind f.tree) ∷ faces_in_turn columns fields
+faces_in_turn _ _ = []

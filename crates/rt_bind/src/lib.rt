@@ -1,0 +1,8 @@
+//! Records of a stream bound to the catalogue: what each changes, or why it doesn't fit (wal2json, format 2).
+#![tactic(auto)]
+
+mod cells;
+mod lookup;
+mod values;
+
+pub use values::{from_json, shown, shown_copy};
