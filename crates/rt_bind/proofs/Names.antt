@@ -60,9 +60,11 @@ pub field_at : (q : List ℕ) (fields : List Field) (i : ℕ) (f : Field) → Fi
     → f ≡ get_or fields i f → bytes_eq f.name q ≡ true → find (λ g. bytes_eq g.name q) fields ≡ Some f
 field_at q fields i f h = found_at (λ g. g.name) q fields i f h.apart
 
-pub column_at : (q : List ℕ) (columns : List Column) (i : ℕ) (col : Column) → ColumnsAreApart columns → i < length columns
-    → col ≡ get_or columns i col → bytes_eq col.name q ≡ true → find (λ c. bytes_eq c.name q) columns ≡ Some col
-column_at q columns i col h = found_at (λ c. c.name) q columns i col h.apart
+pub column_at : (q : List ℕ) (columns seen : List Column) (i : ℕ) (col : Column) → seen ≡ columns → ColumnsAreApart columns
+    → i < length seen → col ≡ get_or seen i col → bytes_eq col.name q ≡ true → find (λ c. bytes_eq c.name q) columns ≡ Some col
+column_at q columns seen i col same h lt is e =
+    found_at (λ c. c.name) q columns i col h.apart (subst (λ (l : List Column). i < length l) same lt)
+    (is ∙ ap (λ (l : List Column). get_or l i col) same) e
 
 either_tree : (a b : Option Field) → option_map (λ f. f.tree) (option_or a b) ≡ option_or (option_map (λ f. f.tree) a) (option_map (λ f. f.tree) b)
 either_tree None b = refl
@@ -73,3 +75,23 @@ pub tree_in_both : (first second : List Field) (col : Column) → tree_for (firs
 tree_in_both first second col =
     ap (λ (o : Option Field). option_map (λ (f : Field). f.tree) o) (find-append (λ f. bytes_eq f.name col.name) first second)
     ∙ either_tree (find (λ f. bytes_eq f.name col.name) first) (find (λ f. bytes_eq f.name col.name) second)
+
+abbrev named : List Field → Column → Option Field
+named fields col = find (λ f. bytes_eq f.name col.name) fields
+
+abbrev tree_of_field : Option Field → Option Json
+tree_of_field o = option_map (λ f. f.tree) o
+
+pub from_first : (first second : List Field) (col : Column) (f : Field) → Some f ≡ named first col → Some f.tree ≡ tree_for (first ++ second) col
+from_first first second col f h =
+    sym (tree_in_both first second col ∙ ap (λ (o : Option Field). option_or (tree_of_field o) (tree_for second col)) (sym h))
+
+pub from_second : (first second : List Field) (col : Column) (f : Field) → None ≡ named first col → Some f ≡ named second col
+    → Some f.tree ≡ tree_for (first ++ second) col
+from_second first second col f n h =
+    sym (tree_in_both first second col ∙ ap (λ (o : Option Field). option_or (tree_of_field o) (tree_for second col)) (sym n) ∙ ap tree_of_field (sym h))
+
+pub from_none : (first second : List Field) (col : Column) → None ≡ named first col → None ≡ named second col
+    → None ≡ tree_for (first ++ second) col
+from_none first second col n h =
+    sym (tree_in_both first second col ∙ ap (λ (o : Option Field). option_or (tree_of_field o) (tree_for second col)) (sym n) ∙ ap tree_of_field (sym h))

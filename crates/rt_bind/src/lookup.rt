@@ -1,9 +1,11 @@
-ghost use Rattle.std.specs.Prelude.{◌≡◌, ◌++◌, ◌&&◌, IfSome, find, option_map};
+ghost use Rattle.std.specs.Prelude.{◌≡◌, ◌<◌, ◌++◌, length, find, option_map};
+ghost use Rattle.std.specs.List.{enumerate_from};
 ghost use Rattle.std.specs.Option.{option_copied};
 ghost use Rattle.std.specs.Str.{bytes_eq};
 ghost use Rattle.rt_catalog.specs.Access.{table_named, table_at};
 ghost use Rattle.rt_change.specs.Binding.{column_named, tree_for};
 ghost use Rattle.rt_bind.specs.Apart.{FieldsAreApart, ColumnsAreApart};
+ghost use Rattle.rt_bind.specs.Checks.{is_named};
 
 use rt_catalog::{Catalog, Column, Table};
 use rt_json::Json;
@@ -11,16 +13,34 @@ use rt_value::Text;
 use rt_wal::Field;
 
 /// The first table of a schema and a name, with its number.
-pub fn table_named<'a>(
+fn find_table<'a>(
     catalog: &'a Catalog,
     schema: &Text,
     name: &Text,
 ) -> Option<(usize, &'a Table)>
-    ensures number { option_map (λ t. t.0) result ≡ table_named catalog.now schema.now name.now }
-    ensures table { IfSome result (λ t. table_at catalog.now t.0 ≡ t.1.now) }
+    ensures { option_map (λ t. (t.0, t.1.now)) result ≡ find (is_named schema.now name.now)
+        (enumerate_from 0 catalog.now.tables) }
 {
     let mut tables = catalog.tables.get().iter().enumerate();
     tables.find(|(_, table)| table.schema == *schema && table.name == *name)
+}
+
+/// The number of the first table of a schema and a name.
+pub fn table_number(catalog: &Catalog, schema: &Text, name: &Text) -> Option<usize>
+    ensures { result ≡ table_named catalog.now schema.now name.now }
+{
+    match find_table(catalog, schema, name) {
+        Some((number, _)) => Some(number),
+        None => None,
+    }
+}
+
+/// The table of a number.
+pub fn table_at(catalog: &Catalog, number: usize) -> &Table
+    requires { number < length catalog.now.tables }
+    ensures { result.now ≡ table_at catalog.now number }
+{
+    &catalog.tables.get()[number]
 }
 
 /// The field of a name, which is tried at the place first.
