@@ -1,1 +1,5 @@
 pub mod Names
+pub mod Places
+pub mod Given
+pub mod KeyNames
+pub mod Fits

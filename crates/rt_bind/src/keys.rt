@@ -1,6 +1,6 @@
-ghost use Rattle.std.specs.Prelude.{◌≡◌, IfOk};
+ghost use Rattle.std.specs.Prelude.{◌≡◌, true, IfOk};
 ghost use Rattle.std.specs.List.{list_any};
-ghost use Rattle.std.specs.Option.{option_copied};
+ghost use Rattle.std.specs.Option.{option_copied, option_map_or};
 ghost use Rattle.std.specs.Str.{bytes_eq};
 ghost use Rattle.rt_value.specs.Choice.{is_at};
 ghost use Rattle.rt_change.specs.Binding.{given, cell_at, key_in, name_at, key_names, are_among};
@@ -25,6 +25,7 @@ fn value_at(cells: &Cells, column: u32) -> Option<&Value>
 }
 
 /// The key that the cells give, where each of its columns has a value that isn't null.
+#[tactic(auto, using(crate::proofs::Given::given_none, crate::proofs::Given::given_more, crate::proofs::Given::given_bad, crate::proofs::Given::given_all))]
 pub fn key_in(alloc: Global, table: &Table, cells: &Cells) -> Result<Option<Key>, AllocError>
     ensures { IfOk result (λ key. key ≡ key_in table.now cells.now) }
 {
@@ -77,6 +78,7 @@ fn is_among(name: &Text, names: &[Text]) -> bool
 }
 
 /// Whether a name is that of a key column.
+#[tactic(auto, using(crate::proofs::KeyNames::any_more, crate::proofs::KeyNames::any_here, crate::proofs::KeyNames::none_behind))]
 fn is_key_name(table: &Table, name: &Text) -> bool
     ensures { result ≡ list_any (bytes_eq name.now) (key_names table.now) }
 {
@@ -105,15 +107,25 @@ fn are_key_names(table: &Table, names: &[Text]) -> bool
     names.iter().all(|name| is_key_name(table, name))
 }
 
+/// Whether a column's name, where it has one, is among others.
+fn is_name_among(table: &Table, column: u32, names: &[Text]) -> bool
+    ensures { result ≡ option_map_or (λ name. list_any (bytes_eq name) names.now)
+        (name_at table.now column) true }
+{
+    match name_at(table, column) {
+        Some(name) => is_among(name, names),
+        None => true,
+    }
+}
+
 /// Whether the name of each key column is among these.
+#[tactic(auto, using(crate::proofs::KeyNames::all_more, crate::proofs::KeyNames::all_lacks, crate::proofs::KeyNames::none_behind))]
 fn has_key_names(table: &Table, names: &[Text]) -> bool
     ensures { result ≡ are_among (key_names table.now) names.now }
 {
     for column in table.key.get() {
-        if let Some(name) = name_at(table, *column) {
-            if !is_among(name, names) {
-                return false;
-            }
+        if !is_name_among(table, *column, names) {
+            return false;
         }
     }
     true

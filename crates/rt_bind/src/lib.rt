@@ -2,7 +2,10 @@
 #![tactic(auto)]
 
 mod cells;
+mod edits;
+mod keys;
 mod lookup;
+mod refusals;
 mod values;
 
 pub use values::{from_json, shown, shown_copy};
