@@ -3,3 +3,4 @@ pub mod Places
 pub mod Given
 pub mod KeyNames
 pub mod Fits
+pub mod Bounds

@@ -1,3 +1,4 @@
 pub mod Faces
 pub mod Apart
 pub mod Checks
+pub mod Parts

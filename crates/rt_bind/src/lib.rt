@@ -1,11 +1,15 @@
 //! Records of a stream bound to the catalogue: what each changes, or why it doesn't fit (wal2json, format 2).
 #![tactic(auto)]
 
+mod binding;
 mod cells;
 mod edits;
+mod fields;
 mod keys;
 mod lookup;
+mod parts;
 mod refusals;
 mod values;
 
+pub use binding::bind_lent;
 pub use values::{from_json, shown, shown_copy};
