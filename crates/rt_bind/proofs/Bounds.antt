@@ -1,6 +1,7 @@
 -- A change by its parts, and what a record does by its place.
-use Rattle.std.proofs.Common.{◌≡◌, ℕ, ◌<◌, Bool, true, ◌&&◌, not, List, [], ◌∷◌, length, Option, Some, None, Result, Ok, Err, refl, sym, ap, ◌∙◌, eqb}
+use Rattle.std.proofs.Common.{◌≡◌, ℕ, ◌<◌, Bool, true, ◌&&◌, not, List, [], ◌∷◌, length, Option, Some, None, Result, Ok, Err, refl, sym, ap, ◌∙◌, eqb, arith}
 use Rattle.std.specs.Str.{bytes_eq}
+use Rattle.std.proofs.lemmas.Bool.Decides.{nat_tests}
 use Rattle.rt_value.specs.declared.value.Value.{Value}
 use Rattle.rt_value.specs.Choice.{◌>>=◌, some_if}
 use Rattle.rt_json.specs.declared.tree.Json.{Json}
@@ -78,7 +79,7 @@ module _ (number : ℕ) (t : Table) (r : Record) (verb : Verb) where
 
 pub has_none : {A : Type 0} (xs : List A) → eqb (length xs) 0 ≡ is_empty xs
 has_none [] = refl
-has_none (x ∷ xs) = refl
+has_none (x ∷ xs) = grind (arith, nat_tests)
 
 module _ (c : Catalog) (r : Record) where
   abbrev pair : Option ℕ → Option Verb → Option (ℕ × Verb)
@@ -97,8 +98,11 @@ module _ (c : Catalog) (r : Record) where
   bound_there : (n : Option ℕ) (v : Option Verb) (number : ℕ) (verb : Verb) → Some (number, verb) ≡ pair n v
       → bound_to number (table_at c number) r verb ≡ bound_at c r n v
   bound_there (Some n) (Some v) number verb h =
-      let one : number ≡ n = cc in
-      let two : verb ≡ v = cc in
+      let here : ℕ × Verb = (number, verb) in
+      let there : ℕ × Verb = (n, v) in
+      let same : here ≡ there = cc in
+      let one = ap (λ (p : ℕ × Verb). p.0) same in
+      let two = ap (λ (p : ℕ × Verb). p.1) same in
       ap (λ (m : ℕ). bound_to m (table_at c m) r verb) one ∙ ap (λ (w : Verb). bound_to n (table_at c n) r w) two
   bound_there (Some n) None number verb h = absurd (cc)
   bound_there None (Some v) number verb h = absurd (cc)
@@ -110,7 +114,11 @@ module _ (c : Catalog) (r : Record) where
   is_there number verb h = bound_there (table_named c r.schema r.table) (verb_of r.action) number verb h
 
   found_there : (n : Option ℕ) (v : Option Verb) (number : ℕ) (verb : Verb) → Some (number, verb) ≡ pair n v → n ≡ Some number
-  found_there (Some n) (Some v) number verb h = cc
+  found_there (Some n) (Some v) number verb h =
+      let here : ℕ × Verb = (number, verb) in
+      let there : ℕ × Verb = (n, v) in
+      let same : here ≡ there = cc in
+      ap (λ (p : ℕ × Verb). Some p.0) (sym same)
   found_there (Some n) None number verb h = absurd (cc)
   found_there None (Some v) number verb h = absurd (cc)
   found_there None None number verb h = absurd (cc)

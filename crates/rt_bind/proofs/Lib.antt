@@ -4,3 +4,4 @@ pub mod Given
 pub mod KeyNames
 pub mod Fits
 pub mod Bounds
+pub mod Straight

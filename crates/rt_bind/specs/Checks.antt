@@ -36,14 +36,3 @@ checks verb t r new =
     fields_fit t (used verb r.columns) >> λ _.
     fields_fit t (used verb r.identity) >> λ _.
     key_given verb t new
-
--- the fields are the columns, one after another
-abbrev pub are_straight : List Column → List Field → Bool
-are_straight [] [] = true
-are_straight (col ∷ columns) (f ∷ fields) = bytes_eq f.name col.name && are_straight columns fields
-are_straight _ _ = false
-
--- how the fields are shown, each in the column at its place
-abbrev pub faces_in_turn : List Column → List Field → List (Option Json)
-faces_in_turn (col ∷ columns) (f ∷ fields) = Some (face col.kind f.tree) ∷ faces_in_turn columns fields
-faces_in_turn _ _ = []

@@ -2,3 +2,4 @@ pub mod Faces
 pub mod Apart
 pub mod Checks
 pub mod Parts
+pub mod Straight

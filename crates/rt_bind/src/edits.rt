@@ -18,12 +18,7 @@ fn copied(alloc: Global, cell: &Option<Value>) -> Result<Option<Value>, AllocErr
 }
 
 /// A put of the cells under the new key, where there is one.
-fn put(
-    alloc: Global,
-    old: Option<Key>,
-    new: Option<Key>,
-    cells: &Cells,
-) -> Result<Edit, AllocError>
+fn put(alloc: Global, old: Option<Key>, new: Option<Key>, cells: &Cells) -> Result<Edit, AllocError>
     ensures { IfOk result (λ edit. edit ≡ put old new cells.now) }
 {
     match new {

@@ -50,12 +50,7 @@ fn old_fields(verb: Verb, given: &Record) -> &[Field]
     }
 }
 
-fn new_cells(
-    alloc: Global,
-    verb: Verb,
-    table: &Table,
-    given: &Record,
-) -> Result<Cells, AllocError>
+fn new_cells(alloc: Global, verb: Verb, table: &Table, given: &Record) -> Result<Cells, AllocError>
     requires { RecordIsApart given.now }
     ensures { IfOk result (λ cells. cells ≡ cells_for table.now (new_fields verb given.now)) }
 {
@@ -64,12 +59,7 @@ fn new_cells(
     cells_for(alloc, table, first, second)
 }
 
-fn old_cells(
-    alloc: Global,
-    verb: Verb,
-    table: &Table,
-    given: &Record,
-) -> Result<Cells, AllocError>
+fn old_cells(alloc: Global, verb: Verb, table: &Table, given: &Record) -> Result<Cells, AllocError>
     requires { RecordIsApart given.now }
     ensures { IfOk result (λ cells. cells ≡ cells_for table.now (old_fields verb given.now)) }
 {

@@ -7,9 +7,10 @@ mod edits;
 mod fields;
 mod keys;
 mod lookup;
+mod moved;
 mod parts;
 mod refusals;
 mod values;
 
-pub use binding::bind_lent;
+pub use binding::{bind, bind_lent};
 pub use values::{from_json, shown, shown_copy};

@@ -13,11 +13,7 @@ use rt_value::Text;
 use rt_wal::Field;
 
 /// The first table of a schema and a name, with its number.
-fn find_table<'a>(
-    catalog: &'a Catalog,
-    schema: &Text,
-    name: &Text,
-) -> Option<(usize, &'a Table)>
+fn find_table<'a>(catalog: &'a Catalog, schema: &Text, name: &Text) -> Option<(usize, &'a Table)>
     ensures { option_map (λ t. (t.0, t.1.now)) result ≡ find (is_named schema.now name.now)
         (enumerate_from 0 catalog.now.tables) }
 {
@@ -66,7 +62,11 @@ pub fn column_named<'a>(table: &'a Table, at: usize, name: &Text) -> Option<&'a 
             return Some(column);
         }
     }
-    table.columns.get().iter().find(|column| column.name == *name)
+    table
+        .columns
+        .get()
+        .iter()
+        .find(|column| column.name == *name)
 }
 
 /// The tree that the fields of the first list, and behind them those of the second, give the column at a place.
