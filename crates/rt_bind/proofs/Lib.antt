@@ -5,3 +5,6 @@ pub mod KeyNames
 pub mod Fits
 pub mod Bounds
 pub mod Straight
+pub mod ReadNames
+pub mod NewKeys
+pub mod Columns

@@ -3,3 +3,4 @@ pub mod Apart
 pub mod Checks
 pub mod Parts
 pub mod Straight
+pub mod Keys
