@@ -2,8 +2,10 @@ use crate::part::{Part, Source};
 use crate::stack::Stack;
 use crate::{Comparison, Expr};
 use rt_value::List;
+use std::alloc::AllocError;
 
 /// What the next operand is for.
+#[derive(Drop)]
 pub enum Slot {
     First,
     Right(Comparison, Expr),
@@ -11,12 +13,14 @@ pub enum Slot {
 }
 
 /// What stands complete before an OR and before an AND.
+#[derive(Drop)]
 pub struct Level {
     pub ors: List<Expr>,
     pub ands: List<Expr>,
 }
 
 /// What is open, with what stands before it.
+#[derive(Drop)]
 pub enum Frame {
     Not(Level),
     Group(Level, Slot),
@@ -24,6 +28,7 @@ pub enum Frame {
 }
 
 /// What may come next.
+#[derive(Drop)]
 pub enum Mode {
     Want(Slot),
     /// Behind a parenthesis where an operand begins.
@@ -40,6 +45,7 @@ pub enum Mode {
     IsNot(Expr),
 }
 
+#[derive(Drop)]
 pub struct State {
     pub stack: Stack<Frame>,
     pub level: Level,
@@ -47,9 +53,21 @@ pub struct State {
 }
 
 /// Why a token leads to no state.
+#[derive(Drop)]
 pub enum Stop {
     NoMemory,
     /// The expression ends before this token.
     End(Expr),
     Bad,
+}
+
+impl From<AllocError> for Stop {
+    ghost use Rattle.std.specs.Prelude.{◌≡◌};
+    ghost use Rattle.rt_policy.specs.declared.building.Stop.TheVariants.{NoMemory};
+
+    ghost from_gives = { λ _ e. e ≡ NoMemory };
+
+    fn from(_: AllocError) -> Stop {
+        Stop::NoMemory
+    }
 }

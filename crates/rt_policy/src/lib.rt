@@ -2,7 +2,7 @@
 //! show (PostgreSQL, "Row Security Policies").
 #![tactic(auto)]
 
-mod building;
+pub mod building;
 mod caller;
 mod claims;
 mod evaluation;
@@ -16,16 +16,16 @@ mod lent;
 mod logic;
 mod lookup;
 mod meaning;
-mod part;
+pub mod part;
 mod parts;
 mod ranking;
 mod resolution;
 mod rules;
 mod scope;
-mod stack;
+pub mod stack;
 mod tables;
 mod types;
-mod words;
+pub mod words;
 
 pub use caller::{Caller, Seen};
 pub use evaluation::{holds, sees};

@@ -35,6 +35,7 @@ pub enum Head {
 }
 
 /// What an EXISTS reads.
+#[derive(Drop)]
 pub struct Source {
     pub selected: Selected,
     pub schema: Text,
@@ -43,6 +44,7 @@ pub struct Source {
 }
 
 /// What is read of an operand in which no other stands.
+#[derive(Drop)]
 pub enum Goal {
     /// The whole operand.
     Whole(Expr),
@@ -91,6 +93,7 @@ pub enum Goal {
 }
 
 /// What is read of an operand, and the classes that have to come before anything else.
+#[derive(Drop)]
 pub enum Part {
     At(Goal),
     One(Wanted, Goal),
@@ -99,6 +102,7 @@ pub enum Part {
 }
 
 /// Where a token leads in an operand.
+#[derive(Drop)]
 pub enum Moved {
     More(Part),
     /// The operand ends with the token.
