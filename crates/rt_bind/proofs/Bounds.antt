@@ -1,8 +1,7 @@
 -- A change by its parts, and what a record does by its place.
-use Rattle.std.proofs.Common.{◌≡◌, ℕ, ◌<◌, Bool, true, ◌&&◌, not, List, [], ◌∷◌, length, Option, Some, None, Result, Ok, Err, refl, sym, ap, ◌∙◌, eqb, arith}
+use Rattle.std.proofs.Common.{◌≡◌, ℕ, ◌<◌, Bool, ◌&&◌, not, List, [], ◌∷◌, length, Option, Some, None, Result, Ok, Err, refl, sym, ap, ◌∙◌, eqb, arith}
 use Rattle.std.specs.Str.{bytes_eq}
 use Rattle.std.proofs.lemmas.Bool.Decides.{nat_tests}
-use Rattle.rt_value.specs.declared.value.Value.{Value}
 use Rattle.rt_value.specs.Choice.{◌>>=◌, some_if}
 use Rattle.rt_json.specs.declared.tree.Json.{Json}
 use Rattle.rt_wal.specs.declared.records.Record.{Record}

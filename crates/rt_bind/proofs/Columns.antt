@@ -1,13 +1,12 @@
 -- Columns whose names are apart, one more at a time, and all tables of a catalogue.
-use Rattle.std.proofs.Common.{◌≡◌, ℕ, zero, suc, ◌+◌, ◌<◌, ◌≤◌, Bool, true, false, not, ◌&&◌, List, [], ◌∷◌, length, get_or, drop, map, Option, Some, None, IsTrue, refl, sym, ap, subst, ◌∙◌}
+use Rattle.std.proofs.Common.{◌≡◌, ℕ, zero, suc, ◌+◌, ◌<◌, ◌≤◌, Bool, true, false, not, ◌&&◌, List, [], ◌∷◌, length, get_or, drop, refl, ap, ◌∙◌}
 use Rattle.std.specs.Prelude.{slice_get, unwrap_or}
 use Rattle.std.specs.List.{list_any, list_all}
 use Rattle.std.specs.Str.{bytes_eq}
-use Rattle.rt_wal.specs.Shapes.{are_distinct}
 use Rattle.rt_catalog.specs.declared.catalog.Catalog.{Catalog}
 use Rattle.rt_catalog.specs.declared.catalog.Table.{Table}
 use Rattle.rt_catalog.specs.declared.catalog.Column.{Column}
-use Rattle.rt_catalog.specs.Access.{table_at, no_table}
+use Rattle.rt_catalog.specs.Access.{no_table}
 use Rattle.rt_bind.specs.Apart.{ColumnsAreApart, CatalogIsApart, column_names, columns_are_apart}
 use Rattle.rt_bind.proofs.Places.{at_place, past}
 

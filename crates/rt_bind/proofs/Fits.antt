@@ -1,5 +1,5 @@
 -- Fields that are checked, one more at a time.
-use Rattle.std.proofs.Common.{◌≡◌, ℕ, ◌+◌, ◌<◌, ◌≤◌, Bool, true, List, [], ◌∷◌, length, get_or, drop, Option, Some, None, Result, Ok, Err, refl, sym, ap, ◌∙◌}
+use Rattle.std.proofs.Common.{◌≡◌, ℕ, ◌+◌, ◌<◌, ◌≤◌, Bool, true, List, ◌∷◌, length, get_or, drop, Option, Some, None, Result, Ok, Err, refl, sym, ap, ◌∙◌}
 use Rattle.rt_value.specs.declared.value.Value.{Value}
 use Rattle.rt_wal.specs.declared.records.Field.{Field}
 use Rattle.rt_catalog.specs.declared.catalog.Table.{Table}

@@ -10,7 +10,7 @@ use Rattle.rt_wal.specs.declared.records.Field.{Field}
 use Rattle.rt_wal.specs.Shapes.{are_distinct}
 use Rattle.rt_catalog.specs.declared.catalog.Column.{Column}
 use Rattle.rt_change.specs.Binding.{tree_for}
-use Rattle.rt_bind.specs.Apart.{FieldsAreApart, ColumnsAreApart, field_names, column_names}
+use Rattle.rt_bind.specs.Apart.{FieldsAreApart, ColumnsAreApart}
 
 both_parts : (a b : Bool) → (not a && b) ≡ true → (a ≡ false) × (b ≡ true)
 both_parts true b h = absurd (cc)

@@ -1,5 +1,5 @@
 -- The new key of a bound change: its new cells give it.
-use Rattle.std.proofs.Common.{◌≡◌, ◌≢◌, ℕ, Bool, true, false, List, [], ◌∷◌, map, Option, Some, None, option_map, Result, Ok, Err, refl, sym, ap, subst, ◌∙◌, not}
+use Rattle.std.proofs.Common.{◌≡◌, ◌≢◌, ℕ, Bool, true, false, List, [], ◌∷◌, map, Option, Some, None, option_map, Result, Ok, Err, refl, subst, not}
 use Rattle.std.specs.Prelude.{⊤}
 use Rattle.std.specs.List.{AllByRecursion}
 use Rattle.std.specs.Option.{option_or}
@@ -8,21 +8,20 @@ use Rattle.rt_value.specs.declared.value.Value.TheVariants as value
 use Rattle.rt_value.specs.declared.row.Key.{Key}
 use Rattle.rt_value.specs.declared.edit.Edit.{Edit}
 use Rattle.rt_value.specs.declared.edit.Edit.TheVariants as edit
-use Rattle.rt_value.specs.Choice.{◌>>=◌, some_if}
+use Rattle.rt_value.specs.Choice.{some_if}
 use Rattle.rt_wal.specs.declared.records.Record.{Record}
 use Rattle.rt_catalog.specs.declared.catalog.Catalog.{Catalog}
 use Rattle.rt_catalog.specs.declared.catalog.Table.{Table}
 use Rattle.rt_catalog.specs.Access.{table_named, table_at}
 use Rattle.rt_catalog.proofs.Found.{bind_some}
-use Rattle.rt_change.specs.declared.change.Change.{Change}
 use Rattle.rt_change.specs.declared.change.Verb.{Verb}
 use Rattle.rt_change.specs.declared.change.Verb.TheVariants.{Insert, Update, Delete, Truncate}
 use Rattle.rt_change.specs.declared.change.Bound.{Bound}
 use Rattle.rt_change.specs.declared.change.Bound.TheVariants as bound
 use Rattle.rt_change.specs.declared.fault.ChangeFault.{ChangeFault}
 use Rattle.rt_change.specs.declared.fault.ChangeFault.TheVariants.{KeyDiffers}
-use Rattle.rt_change.specs.Binding.{◌>>◌, or_fault, given, cell_at, all_given, key_in, put, removal, edit_by, edit_of, is_empty, cells_for, new_fields, old_fields, used, fields_fit, key_given, keys_differ, change_with, bound_to, bound_at, verb_of, change_of, IsBound}
-use Rattle.rt_bind.specs.Keys.{IsKeyOf, NewKeysAreGiven}
+use Rattle.rt_change.specs.Binding.{◌>>◌, or_fault, given, cell_at, all_given, key_in, put, removal, edit_by, is_empty, cells_for, new_fields, old_fields, used, fields_fit, key_given, keys_differ, change_with, bound_to, bound_at, verb_of, change_of}
+use Rattle.rt_bind.specs.Keys.{NewKeysAreGiven}
 
 not_null : (c : Option Value) (v : Value) → given c ≡ Some v → v ≢ value.Null
 not_null None v h = absurd (cc)

@@ -1,5 +1,5 @@
 -- The names of what was read are apart: of the fields of a record, and of a table's columns.
-use Rattle.std.proofs.Common.{◌≡◌, ℕ, zero, suc, ◌<◌, Bool, true, false, cond, not, ◌&&◌, ◌||◌, List, [], ◌∷◌, length, get_or, map, Option, Some, None, option_map, refl, sym, ap, subst, ◌∙◌}
+use Rattle.std.proofs.Common.{◌≡◌, ℕ, zero, suc, Bool, true, false, cond, not, ◌&&◌, ◌||◌, List, [], ◌∷◌, length, get_or, Option, Some, None, option_map, refl, sym, ap, subst, ◌∙◌}
 use Rattle.std.specs.Prelude.{slice_get, unwrap_or, codes, is_some}
 use Rattle.std.specs.List.{list_any, AllByRecursion, IsDistinct}
 use Rattle.std.specs.Option.{option_map_or}
@@ -12,19 +12,15 @@ use Rattle.rt_json.specs.declared.tree.Json.{Json, out-Json}
 use Rattle.rt_json.specs.Lookup.{member_of}
 use Rattle.rt_wal.specs.declared.records.Record.{Record}
 use Rattle.rt_wal.specs.declared.records.Field.{Field}
-use Rattle.rt_wal.specs.Records.{IsRecordText}
 use Rattle.rt_wal.specs.Shapes.{are_distinct, are_named, each, field_of, name_of, named_items, items_or_none, fields_in, shows_row, has_row, action_in, name_for, keys_in, shape_of, layer_items}
-
-use Rattle.rt_catalog.specs.declared.catalog.Catalog.{Catalog}
 use Rattle.rt_catalog.specs.declared.catalog.Table.{Table}
 use Rattle.rt_catalog.specs.declared.catalog.Column.{Column}
-use Rattle.rt_catalog.specs.Access.{table_at, no_table}
-use Rattle.rt_catalog.specs.Catalogue.{IsCatalogue}
+use Rattle.rt_catalog.specs.Access.{no_table}
 use Rattle.rt_catalog.specs.Sound.{IsSoundTable, same_column}
 use Rattle.rt_catalog.proofs.Found.{bind_some, all_get}
 use Rattle.rt_catalog.proofs.Sounding.{lists_sound}
 use Rattle.rt_catalog.proofs.Unrefused.{unrefused}
-use Rattle.rt_bind.specs.Apart.{FieldsAreApart, RecordIsApart, ColumnsAreApart, CatalogIsApart, field_names, column_names, RecordsAreApart, CataloguesAreApart, FieldsAreFound}
+use Rattle.rt_bind.specs.Apart.{FieldsAreApart, RecordIsApart, ColumnsAreApart, field_names, column_names, RecordsAreApart, CataloguesAreApart, FieldsAreFound}
 use Rattle.rt_bind.proofs.Names.{found_at}
 
 -- a field has the name of its tree
@@ -89,7 +85,7 @@ module _ (size : ℕ) (tree : Json) (r : Record) (h : shape_of size tree ≡ Som
       let keys = bind_some (keys_in tree) _ r identity.2 in
       let row = kept_else (has_row action.0 && not (is_some (member_of tree (codes "columns")))) (fields_in tree (codes "columns")) columns.0 columns.1 in
       let made_so : Record =
-          record { action = action.0; schema = schema.0; table = table.0; columns = columns.0; identity = identity.0; keys = keys.0; moment = None; size = size } in
+      record { action = action.0; schema = schema.0; table = table.0; columns = columns.0; identity = identity.0; keys = keys.0; moment = None; size = size } in
       let same : made_so ≡ r = cc in
       subst RecordIsApart same (record {
         columns = read_apart (member_of tree (codes "columns")) columns.0 row;

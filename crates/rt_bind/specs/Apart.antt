@@ -6,7 +6,6 @@ use Rattle.rt_wal.specs.declared.records.Field.{Field}
 use Rattle.rt_wal.specs.Records.{IsRecordText}
 use Rattle.rt_wal.specs.Shapes.{are_distinct}
 use Rattle.rt_catalog.specs.declared.catalog.Catalog.{Catalog}
-use Rattle.rt_catalog.specs.declared.catalog.Table.{Table}
 use Rattle.rt_catalog.specs.declared.catalog.Column.{Column}
 use Rattle.rt_catalog.specs.Access.{table_at}
 use Rattle.rt_catalog.specs.Catalogue.{IsCatalogue}

@@ -1,17 +1,15 @@
 -- What is refused, in its order, apart from what the change is.
-use Rattle.std.specs.Prelude.{ℕ, Bool, true, false, ◌&&◌, not, List, [], ◌∷◌, Option, Some, None, Result, Ok, Err}
+use Rattle.std.specs.Prelude.{ℕ, Bool, true, ◌&&◌, not, List, Option, Some, None, Result, Ok, Err}
 use Rattle.std.specs.Str.{bytes_eq}
 use Rattle.rt_value.specs.declared.value.Value.{Value}
 use Rattle.rt_value.specs.Choice.{some_if}
-use Rattle.rt_json.specs.declared.tree.Json.{Json}
 use Rattle.rt_wal.specs.declared.records.Record.{Record}
 use Rattle.rt_wal.specs.declared.records.Field.{Field}
 use Rattle.rt_catalog.specs.declared.catalog.Table.{Table}
-use Rattle.rt_catalog.specs.declared.catalog.Column.{Column}
 use Rattle.rt_change.specs.declared.change.Verb.{Verb}
 use Rattle.rt_change.specs.declared.fault.ChangeFault.{ChangeFault}
 use Rattle.rt_change.specs.declared.fault.ChangeFault.TheVariants.{KeyDiffers, ColumnUnknown, BadValue}
-use Rattle.rt_change.specs.Binding.{◌>>◌, or_fault, column_named, value_of, keys_differ, fields_fit, used, key_given, face}
+use Rattle.rt_change.specs.Binding.{◌>>◌, or_fault, column_named, value_of, keys_differ, fields_fit, used, key_given}
 
 -- the table of the number is of this schema and name
 abbrev pub is_named : List ℕ → List ℕ → ℕ × Table → Bool

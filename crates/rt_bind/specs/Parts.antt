@@ -1,7 +1,5 @@
 -- A change in its parts: the fields that make its cells, and what is left once a record is checked.
 use Rattle.std.specs.Prelude.{ℕ, not, List, [], Option, Some, Result, Ok}
-use Rattle.rt_value.specs.declared.value.Value.{Value}
-use Rattle.rt_value.specs.declared.edit.Edit.{Edit}
 use Rattle.rt_json.specs.declared.tree.Json.{Json}
 use Rattle.rt_wal.specs.declared.records.Record.{Record}
 use Rattle.rt_wal.specs.declared.records.Field.{Field}

@@ -35,7 +35,9 @@ fn tables_are_apart(catalog: &Catalog) -> bool
     ensures { result ≡ list_all (λ t. columns_are_apart t.columns) catalog.now.tables }
 {
     let tables = catalog.tables.get();
-    tables.iter().all(|table| columns_are_apart(table.columns.get()))
+    tables
+        .iter()
+        .all(|table| columns_are_apart(table.columns.get()))
 }
 
 /// Whether no two columns of a table have one name, as `bind` asks for. It is so of each catalogue that was read from a

@@ -1,4 +1,4 @@
-use Rattle.std.proofs.Common.{◌≡◌, true, List, Option, IfOk, ap, sym, subst, ◌∙◌}
+use Rattle.std.proofs.Common.{◌≡◌, List, Option, IfOk, ap, sym, subst, ◌∙◌}
 use Rattle.rt_json.specs.declared.tree.Json.{Json}
 use Rattle.rt_wal.specs.declared.records.Field.{Field}
 use Rattle.rt_catalog.specs.declared.catalog.Column.{Column}
