@@ -76,7 +76,7 @@ behind front es a (done b) = done (all_append AtOnce front es a b)
 behind front es a (waits more w may_wait b k h) =
     waits (front ++ more) w may_wait (all_append AtOnce front more a b) k (longer front more es w h)
 
-form_end : {may : Bool} (name : EndName) (held : Held) → Form may (end_effects name held)
+pub form_end : {may : Bool} (name : EndName) (held : Held) → Form may (end_effects name held)
 unfolding end_effects
 form_end name held = shuts (map leave_of held.channels) name (all_map AtOnce leave_of held.channels (λ j. tt)) refl
 

@@ -8,6 +8,7 @@ mod Put
 mod Registered
 mod Renewing
 mod Rising
+mod Still
 mod Taking
 mod Ticking
 mod Turns

@@ -190,7 +190,7 @@ module _ (c : Catalog) (now : Now) (tables : List (List Row)) (slot : ℕ) (own 
         ∙ ap (λ (b : Bool). outcome b (channels_after es js) None o) (sym (none_ends es a))
         ∙ ap (λ (w : Option Effect). outcome (list_any is_end es) (channels_after es js) w o) (sym (none_asks es a))
 
-    shut_at : (front : List Effect) (name : EndName) (any : Option Opening)
+    pub shut_at : (front : List Effect) (name : EndName) (any : Option Opening)
         → opened_after slot (acts gone (front ++ End name ∷ [])) any ≡ None
     shut_at front name any =
         let r = turn_append (act c now tables slot own) gone front (End name) in

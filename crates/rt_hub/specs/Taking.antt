@@ -1,9 +1,12 @@
 -- What a hub answers a socket that asks to join or to renew; and the sockets behind a frame and a tick.
 use Rattle.std.specs.Prelude.{◌≡◌, ◌≢◌, ℕ, ◌<◌, List, Option, Some, None, option_map, Ok, Err, Contains}
 use Rattle.rt_value.specs.Choice.{◌>>=◌}
+use Rattle.rt_value.specs.declared.claims.Claims.{Claims}
 use Rattle.rt_value.specs.declared.row.Row.{Row}
+use Rattle.rt_phx.specs.declared.message.Posting.{Posting}
 use Rattle.rt_phx.specs.Checked.{Checked}
 use Rattle.rt_catalog.specs.declared.catalog.Catalog.{Catalog}
+use Rattle.rt_change.specs.declared.change.Change.{Change}
 use Rattle.rt_channel.specs.declared.answer.Answer.{Answer}
 use Rattle.rt_channel.specs.declared.answer.Answer.TheVariants.{Accepted, Renewed, Refused}
 use Rattle.rt_channel.specs.declared.effect.Effect.{Effect}
@@ -12,7 +15,7 @@ use Rattle.rt_channel.specs.declared.held.Held.{Held}
 use Rattle.rt_channel.specs.Effects.{effects_of}
 use Rattle.rt_channel.specs.Taken.{taken, ticked, unanswered, answered}
 use Rattle.rt_entry.specs.declared.input.Input.{Input}
-use Rattle.rt_entry.specs.declared.input.Input.TheVariants.{Frame, Tick}
+use Rattle.rt_entry.specs.declared.input.Input.TheVariants.{Frame, Gone, Post, Poll, Tick}
 use Rattle.rt_entry.specs.declared.input.Settings.{Settings}
 use Rattle.rt_entry.specs.declared.story.Standing.{Standing}
 use Rattle.rt_entry.specs.declared.story.Channel.{Channel}
@@ -89,3 +92,22 @@ module _ (c : Catalog) (s : Settings) where
   TicksAreTaken =
       (now : Now) (tables : List (List Row)) (slot moment : ℕ) → HasOwnChannels now
       → socket_of c (behind now tables (Tick moment)) slot ≡ (socket_of c now slot >>= ticked moment)
+
+  -- Posts and polls leave every socket as it is,
+  abbrev pub PostsAndPollsLeave : Type 0
+  PostsAndPollsLeave =
+      (now : Now) (tables : List (List Row)) (slot : ℕ) → HasOwnChannels now
+      → ((by : ℕ) (claims : Claims) (messages : List Posting)
+      → socket_of c (behind now tables (Post by claims messages)) slot ≡ socket_of c now slot)
+      × ((changes : List Change) → socket_of c (behind now tables (Poll changes)) slot ≡ socket_of c now slot)
+
+  -- and a client that is gone leaves none on its slot, and every other slot's as it is.
+  abbrev pub GoneIsShut : Type 0
+  GoneIsShut =
+      (now : Now) (tables : List (List Row)) (slot : ℕ) → HasOwnChannels now
+      → socket_of c (behind now tables (Gone slot)) slot ≡ None
+
+  abbrev pub GoneLeavesOthers : Type 0
+  GoneLeavesOthers =
+      (now : Now) (tables : List (List Row)) (slot other : ℕ) → HasOwnChannels now → other ≢ slot
+      → socket_of c (behind now tables (Gone slot)) other ≡ socket_of c now other

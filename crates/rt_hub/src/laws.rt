@@ -6,7 +6,8 @@ ghost use Rattle.rt_hub.specs.Present.{JournalsHaveOwnTracks, OwnTracksStay, Pre
 ghost use Rattle.rt_hub.specs.Present.{PresenceShows};
 ghost use Rattle.rt_hub.specs.Registered.{MembersFollow, RegistryFollows, SubscriptionsAreKept};
 ghost use Rattle.rt_hub.specs.Taking.{FramesAreTaken, FramesLeaveOthers, TicksAreTaken};
-ghost use Rattle.rt_hub.specs.Taking.{JournalsHaveOwnChannels};
+ghost use Rattle.rt_hub.specs.Taking.{GoneIsShut, GoneLeavesOthers, JournalsHaveOwnChannels};
+ghost use Rattle.rt_hub.specs.Taking.{PostsAndPollsLeave};
 ghost use Rattle.rt_hub.specs.Doing.{EndsAreDone, FramesAreDone, JournalsAreApart, TicksAreDone};
 
 /// Where a slot has one channel on a topic, as behind every journal, what a frame, a tick and an
@@ -55,4 +56,12 @@ pub fn sockets_follow()
     ensures frames { (c : CatalogData) (s : SettingsData) → FramesAreTaken c s }
     ensures others { (c : CatalogData) (s : SettingsData) → FramesLeaveOthers c s }
     ensures ticks { (c : CatalogData) (s : SettingsData) → TicksAreTaken c s }
+{}
+
+/// Posts and polls leave every socket as it is, and a client that is gone leaves none on its slot
+/// and every other slot's as it is, where channels are told so.
+pub fn sockets_stay()
+    ensures still { (c : CatalogData) (s : SettingsData) → PostsAndPollsLeave c s }
+    ensures gone { (c : CatalogData) (s : SettingsData) → GoneIsShut c s }
+    ensures others { (c : CatalogData) (s : SettingsData) → GoneLeavesOthers c s }
 {}
