@@ -36,7 +36,7 @@ struct Best {
     state: u128,
 }
 
-fn place(alloc: Global, spread: bool, channel: u32) -> Result<Place, AllocError> {
+fn place_of(alloc: Global, spread: bool, channel: u32) -> Result<Place, AllocError> {
     let topic = if spread {
         format!(in alloc; "room {channel}")?
     } else {
@@ -57,7 +57,7 @@ fn track(presence: &mut Presence, place: &Place, reference: u32) -> Result<(), A
 fn filled(alloc: Global, spread: bool, tracks: u32) -> Result<Presence, AllocError> {
     let mut presence = Presence::new(alloc);
     for channel in 0..tracks {
-        track(&mut presence, &place(alloc, spread, channel)?, channel)?;
+        track(&mut presence, &place_of(alloc, spread, channel)?, channel)?;
     }
     Ok(presence)
 }
@@ -67,7 +67,7 @@ fn places(alloc: Global, spread: bool, tracks: u32) -> Result<Vec<Place>, AllocE
     let mut all = Vec::new(alloc);
     for number in 0..MEASURED {
         let channel = number.wrapping_mul(7919) % tracks.max(1);
-        all.push(place(alloc, spread, channel)?)?;
+        all.push(place_of(alloc, spread, channel)?)?;
     }
     Ok(all)
 }

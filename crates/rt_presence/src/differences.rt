@@ -1,8 +1,8 @@
 use rt_json::Json;
 use rt_value::{Shared, Text};
 
-/// What a channel shows of itself: its track's number and the tracked tree, which is shared with the
-/// presence that answers it.
+/// What a channel shows of itself: its track's number and the tracked tree, which is shared with
+/// the presence that answers it.
 #[derive(Drop)]
 pub struct Meta {
     pub reference: u32,

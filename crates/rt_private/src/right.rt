@@ -1,4 +1,5 @@
-/// The table `realtime.messages`, and the numbers of its columns `topic`, `extension` and `action`. A catalogue that has it has private channels alone.
+/// The table `realtime.messages`, and the numbers of its columns `topic`, `extension` and `action`.
+/// A catalogue that has it has private channels alone.
 #[derive(Clone, Copy, Debug, Drop, PartialEq, Eq)]
 pub struct Messages {
     /// The table's number.

@@ -1,7 +1,7 @@
 //! The messages table of a catalogue, and what a role may do on a topic.
 //!
-//! A case is parts with ` | ` between two. They make a catalogue and its rows, or ask, and the answer
-//! is what is answered, in turn. What the parts say stands in front of the cases.
+//! A case is parts with ` | ` between two. They make a catalogue and its rows, or ask, and the
+//! answer is what is answered, in turn. What the parts say stands in front of the cases.
 #![tactic(auto)]
 
 mod condition;
