@@ -13,4 +13,5 @@ mod Taking
 mod Ticking
 mod Turns
 mod Views
+mod Waiting
 mod Wishes

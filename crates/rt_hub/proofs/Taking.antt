@@ -58,7 +58,7 @@ not_end (Track topic tree) a = refl
 not_end (Untrack topic) a = refl
 not_end (End name) a = absurd a
 
-not_asked : (e : Effect) → AtOnce e → is_asked e ≡ false
+pub not_asked : (e : Effect) → AtOnce e → is_asked e ≡ false
 not_asked (Say m) a = refl
 not_asked (Join w) a = absurd a
 not_asked (Renew topic claims) a = absurd a

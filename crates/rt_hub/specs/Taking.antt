@@ -1,5 +1,5 @@
 -- What a hub answers a socket that asks to join or to renew; and the sockets behind a frame and a tick.
-use Rattle.std.specs.Prelude.{◌≡◌, ◌≢◌, ℕ, ◌<◌, List, Option, Some, None, option_map, Ok, Err, Contains}
+use Rattle.std.specs.Prelude.{◌≡◌, ◌≢◌, ℕ, ◌<◌, true, List, [], ◌∷◌, ◌++◌, Option, Some, None, option_map, Ok, Err, Contains}
 use Rattle.rt_value.specs.Choice.{◌>>=◌}
 use Rattle.rt_value.specs.declared.claims.Claims.{Claims}
 use Rattle.rt_value.specs.declared.row.Row.{Row}
@@ -13,7 +13,7 @@ use Rattle.rt_channel.specs.declared.effect.Effect.{Effect}
 use Rattle.rt_channel.specs.declared.effect.Effect.TheVariants.{Join, Renew}
 use Rattle.rt_channel.specs.declared.held.Held.{Held}
 use Rattle.rt_channel.specs.Effects.{effects_of}
-use Rattle.rt_channel.specs.Taken.{taken, ticked, unanswered, answered}
+use Rattle.rt_channel.specs.Taken.{taken, ticked, is_asked, unanswered, answered}
 use Rattle.rt_entry.specs.declared.input.Input.{Input}
 use Rattle.rt_entry.specs.declared.input.Input.TheVariants.{Frame, Gone, Post, Poll, Tick}
 use Rattle.rt_entry.specs.declared.input.Settings.{Settings}
@@ -58,6 +58,12 @@ pub record HasOwnChannels (now : Now) : Type 0 where
   pub numbers : (g h : Member) → Contains now.members g → Contains now.members h
       → g.channel.number ≡ h.channel.number → g ≡ h
   pub below : (h : Member) → Contains now.members h → h.channel.number < now.number
+
+-- A frame asks to join or to renew once at most, and last.
+abbrev pub FramesWaitLast : Type 0
+FramesWaitLast =
+    (secret : List ℕ) (number moment : ℕ) (held : Held) (bytes : List ℕ) (front back : List Effect) (e : Effect)
+    → effects_of secret number moment held bytes ≡ front ++ e ∷ back → is_asked e ≡ true → back ≡ []
 
 module _ (c : Catalog) (s : Settings) where
   -- so it is behind every journal

@@ -5,7 +5,8 @@ ghost use Rattle.rt_entry.specs.declared.input.Settings.{Settings as SettingsDat
 ghost use Rattle.rt_hub.specs.Present.{JournalsHaveOwnTracks, OwnTracksStay, PresenceFollows};
 ghost use Rattle.rt_hub.specs.Present.{PresenceShows};
 ghost use Rattle.rt_hub.specs.Registered.{MembersFollow, RegistryFollows, SubscriptionsAreKept};
-ghost use Rattle.rt_hub.specs.Taking.{FramesAreTaken, FramesLeaveOthers, TicksAreTaken};
+ghost use Rattle.rt_hub.specs.Taking.{FramesAreTaken, FramesLeaveOthers, FramesWaitLast};
+ghost use Rattle.rt_hub.specs.Taking.{TicksAreTaken};
 ghost use Rattle.rt_hub.specs.Taking.{GoneIsShut, GoneLeavesOthers, JournalsHaveOwnChannels};
 ghost use Rattle.rt_hub.specs.Taking.{PostsAndPollsLeave};
 ghost use Rattle.rt_hub.specs.Doing.{EndsAreDone, FramesAreDone, JournalsAreApart, TicksAreDone};
@@ -50,9 +51,10 @@ pub fn presence_follows()
 /// The socket of a slot behind a frame is the one that took it, once the join or the renewal that
 /// it waits for is answered, and every other slot's is what it was; behind a tick each is the one
 /// that took it. So it is where channels are told by their numbers and their topics, as behind
-/// every journal.
+/// every journal. A frame asks to join or to renew once at most, and last.
 pub fn sockets_follow()
     ensures apart { (c : CatalogData) (s : SettingsData) → JournalsHaveOwnChannels c s }
+    ensures last { FramesWaitLast }
     ensures frames { (c : CatalogData) (s : SettingsData) → FramesAreTaken c s }
     ensures others { (c : CatalogData) (s : SettingsData) → FramesLeaveOthers c s }
     ensures ticks { (c : CatalogData) (s : SettingsData) → TicksAreTaken c s }
