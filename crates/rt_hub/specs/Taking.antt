@@ -1,5 +1,6 @@
 -- What a hub answers a socket that asks to join or to renew; and the sockets behind a frame and a tick.
-use Rattle.std.specs.Prelude.{◌≡◌, ◌≢◌, ℕ, ◌<◌, true, List, [], ◌∷◌, ◌++◌, Option, Some, None, option_map, Ok, Err, Contains}
+use Rattle.std.specs.Prelude.{◌≡◌, ◌≢◌, ℕ, ◌<◌, true, List, [], ◌∷◌, ◌++◌, Option, Some, None, option_map, Ok, Err}
+use Rattle.std.specs.Prelude.{Contains}
 use Rattle.rt_value.specs.Choice.{◌>>=◌}
 use Rattle.rt_value.specs.declared.claims.Claims.{Claims}
 use Rattle.rt_value.specs.declared.row.Row.{Row}
