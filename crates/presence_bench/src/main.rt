@@ -50,7 +50,13 @@ fn place_of(alloc: Global, spread: bool, channel: u32) -> Result<Place, AllocErr
 }
 
 fn track(presence: &mut Presence, place: &Place, reference: u32) -> Result<(), AllocError> {
-    presence.track(&place.topic, place.channel, &place.key, reference, Json::Null)?;
+    presence.track(
+        &place.topic,
+        place.channel,
+        &place.key,
+        reference,
+        Json::Null,
+    )?;
     Ok(())
 }
 
@@ -89,11 +95,7 @@ fn tracks<R: Clock>(
 ) -> io::Result<u128> {
     let mut nanoseconds = 0_u128;
     for place in places {
-        let copy = if behind {
-            Some(presence.copy()?)
-        } else {
-            None
-        };
+        let copy = if behind { Some(presence.copy()?) } else { None };
         let start = Instant::now(rt)?;
         track(presence, place, reference)?;
         nanoseconds = nanoseconds.saturating_add(start.elapsed(rt)?.as_nanos());
@@ -137,8 +139,12 @@ where
         let reference = count.wrapping_add(round);
         best.copy = best.copy.min(copies(rt, &presence)?);
         best.state = best.state.min(state(rt, &presence, &places)?);
-        best.track = best.track.min(tracks(rt, &mut presence, &places, false, reference)?);
-        best.behind = best.behind.min(tracks(rt, &mut presence, &places, true, round)?);
+        best.track = best
+            .track
+            .min(tracks(rt, &mut presence, &places, false, reference)?);
+        best.behind = best
+            .behind
+            .min(tracks(rt, &mut presence, &places, true, round)?);
         best.untrack = best.untrack.min(untracks(rt, &mut presence, &places)?);
         for place in &places {
             track(&mut presence, place, round)?;
