@@ -27,7 +27,11 @@ pub fn tree(alloc: Global, tree: &Json) -> io::Result<String> {
     Ok(String::from_str(alloc, text_of(spelling.get())?)?)
 }
 
-fn push_cells(alloc: Global, answer: &mut String, cells: &[Option<Value>]) -> Result<(), AllocError> {
+fn push_cells(
+    alloc: Global,
+    answer: &mut String,
+    cells: &[Option<Value>],
+) -> Result<(), AllocError> {
     answer.push_str(" |")?;
     for cell in cells {
         answer.push(' ')?;

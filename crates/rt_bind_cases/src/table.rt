@@ -27,9 +27,7 @@ fn text(alloc: Global, text: &str) -> Result<Text, AllocError> {
 
 /// Returns the column that `NAME KIND` writes.
 fn column_of(alloc: Global, column: &str) -> io::Result<Column> {
-    let (name, kind) = column
-        .split_once(' ')
-        .ok_or(io::ErrorKind::InvalidInput)?;
+    let (name, kind) = column.split_once(' ').ok_or(io::ErrorKind::InvalidInput)?;
     Ok(Column {
         name: text(alloc, name)?,
         kind: kind_named(kind).ok_or(io::ErrorKind::InvalidInput)?,
