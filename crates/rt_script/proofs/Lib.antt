@@ -4,3 +4,4 @@ pub mod Bounded
 pub mod Lanes
 pub mod EachLine
 pub mod OneScript
+pub mod OneStream

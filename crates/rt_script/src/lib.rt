@@ -6,5 +6,5 @@ mod laws;
 mod script;
 
 pub use fault::{LineWhy, ScriptFault};
-pub use laws::one_script;
+pub use laws::{one_script, one_stream, served_statuses};
 pub use script::{Act, Line, Script};
