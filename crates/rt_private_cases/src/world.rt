@@ -280,7 +280,15 @@ fn asked(alloc: Global, made: &Made, messages: Messages, question: &str) -> io::
     let claims = claims(alloc, user(sub)?)?;
     let topic = text(alloc, topic)?;
     let role = number(role)?;
-    let all = rights(alloc, &made.catalog, &made.tables, &messages, role, &claims, &topic)?;
+    let all = rights(
+        alloc,
+        &made.catalog,
+        &made.tables,
+        &messages,
+        role,
+        &claims,
+        &topic,
+    )?;
     let mut out = shown_right(alloc, all.join)?;
     for right in [all.presence, all.send, all.track] {
         out.push_str(", ")?;
