@@ -3,6 +3,9 @@
 //! The first lines of `stdin` say how a case is written.
 #![tactic(auto)]
 
+ghost use Rattle.std.specs.Prelude.{IfOk};
+ghost use Rattle.rt_wal.specs.Records.{IsRecord};
+
 mod answers;
 mod table;
 
@@ -20,7 +23,9 @@ use std::io;
 /// # Errors
 ///
 /// `InvalidInput` where it is none; `OutOfMemory`.
-fn record_of(alloc: Global, line: &str) -> io::Result<Record> {
+fn record_of(alloc: Global, line: &str) -> io::Result<Record>
+    ensures { IfOk result (IsRecord line.now) }
+{
     match parse_record(alloc, line.as_bytes()) {
         Ok(record) => Ok(record),
         Err(WalFault::BadRecord { .. }) => Err(io::ErrorKind::InvalidInput.into()),
