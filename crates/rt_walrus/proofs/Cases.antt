@@ -6,7 +6,8 @@ use Rattle.rt_catalog.specs.Access.{is_secured}
 use Rattle.rt_change.specs.declared.change.Change.{Change}
 use Rattle.rt_change.specs.declared.decision.Verdict.TheVariants.{Deliver, Error400, Error401, Denied}
 use Rattle.rt_change.specs.declared.decision.Denial.TheVariants.{Event, Filter}
-use Rattle.rt_change.specs.Verdicts.{Tables, asks_for, lacks_key, hides_key, passes_filter, writes, judged_row, verdict_of}
+use Rattle.rt_change.specs.Verdicts.{Tables, asks_for, lacks_key, hides_key, passes_filter}
+use Rattle.rt_change.specs.Verdicts.{writes, judged_row, verdict_of}
 
 module _ (c : Catalog) (tables : Tables) (s : Subscription) (ch : Change) where
   pub event : asks_for s.wanted ch.verb ≡ false → verdict_of c tables s ch ≡ Denied Event
@@ -29,7 +30,8 @@ module _ (c : Catalog) (tables : Tables) (s : Subscription) (ch : Change) where
         filtered e = rw (asks, has, shown, e)
 
         module _ (passes : passes_filter s ch ≡ true) where
-          pub secured : (writes ch.verb && is_secured c ch.table) ≡ true → verdict_of c tables s ch ≡ judged_row c tables s ch
+          pub secured : (writes ch.verb && is_secured c ch.table) ≡ true
+              → verdict_of c tables s ch ≡ judged_row c tables s ch
           unfolding verdict_of
           secured e = rw (asks, has, shown, passes, e)
 

@@ -1,1 +1,4 @@
 pub mod Cases
+pub mod Given
+pub mod Shaped
+pub mod Shown

@@ -1,6 +1,7 @@
 //! What a subscription asks for, and what a change is.
 ghost use Rattle.std.specs.Prelude.{◌≡◌};
-ghost use Rattle.rt_change.specs.Verdicts.{asks_for as wants, lacks_key as has_no_key, passes_filter as passes, writes as is_written};
+ghost use Rattle.rt_change.specs.Verdicts.{asks_for as wants, lacks_key as has_no_key};
+ghost use Rattle.rt_change.specs.Verdicts.{passes_filter as passes, writes as is_written};
 
 use rt_change::{Change, Verb};
 use rt_filter::{Subscription, Wanted, all_pass};
@@ -32,7 +33,8 @@ pub fn lacks_key(change: &Change) -> bool
     writes(change.verb) && !change.has_key
 }
 
-/// Whether the change passes the subscription's filters: by its new cells, a delete by its identity.
+/// Whether the change passes the subscription's filters: by its new cells, a delete by its
+/// identity.
 pub fn passes_filter(subscription: &Subscription, change: &Change) -> bool
     ensures { result ≡ passes subscription.now change.now }
 {

@@ -55,7 +55,8 @@ fn judged(
     subscription: &Subscription,
     change: &Change,
 ) -> Verdict
-    ensures { result ≡ judged_row catalog.now (rows_of_table tables.now) subscription.now change.now }
+    ensures { let rows = rows_of_table tables.now in
+        result ≡ judged_row catalog.now rows subscription.now change.now }
 {
     let Edit::Put { new, .. } = &change.edit else {
         return Verdict::Denied(Denial::RowGone);
@@ -89,7 +90,8 @@ pub fn decided(
     selects_key: bool,
 ) -> Verdict
     requires { selects_key ≡ selects catalog.now subscription.now.role change.now.table }
-    ensures { result ≡ verdict_of catalog.now (rows_of_table tables.now) subscription.now change.now }
+    ensures { let rows = rows_of_table tables.now in
+        result ≡ verdict_of catalog.now rows subscription.now change.now }
 {
     if !asks_for(subscription.wanted, change.verb) {
         return Verdict::Denied(Denial::Event);
@@ -109,17 +111,18 @@ pub fn decided(
     Verdict::Deliver
 }
 
-/// What a subscription gets of a change, judged on the tables as they are: the first that applies of an
-/// event that isn't asked for, a record without its key, a key that the role may not SELECT, a filter
-/// that isn't passed, and what the table's policies say of the row that stands at the change's new key.
-/// Takes no memory, and walks the grants for the columns of the table's key.
+/// What a subscription gets of a change, judged on the tables as they are: the first that applies
+/// of an event that isn't asked for, a record without its key, a key that the role may not SELECT,
+/// a filter that isn't passed, and what the table's policies say of the row that stands at the
+/// change's new key. Takes no memory, and walks the grants for the columns of the table's key.
 pub fn verdict(
     catalog: &Catalog,
     tables: &Tables,
     subscription: &Subscription,
     change: &Change,
 ) -> Verdict
-    ensures { result ≡ verdict_of catalog.now (rows_of_table tables.now) subscription.now change.now }
+    ensures { let rows = rows_of_table tables.now in
+        result ≡ verdict_of catalog.now rows subscription.now change.now }
 {
     let selects_key = may_select_key(catalog, subscription.role, change.table);
     decided(catalog, tables, subscription, change, selects_key)
@@ -133,7 +136,8 @@ pub fn judge<L: Ledger>(
     change: &Change,
     steps: &mut Steps<L>,
 ) -> Verdict
-    ensures verdict { result ≡ verdict_of catalog.now (rows_of_table tables.now) subscription.now change.now }
+    ensures verdict { let rows = rows_of_table tables.now in
+        result ≡ verdict_of catalog.now rows subscription.now change.now }
     ensures count { steps.new ≡ steps.old + 1 }
 {
     steps.tick();

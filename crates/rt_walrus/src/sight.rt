@@ -13,8 +13,8 @@ use rt_value::Shared;
 use std::marker::Model;
 use std::sync::ledger::Ledger;
 
-/// What a role may SELECT of a table, by the grants of a catalogue. Made once for the two, so that no
-/// verdict walks the grants. Contracts see the catalogue, the role and the table.
+/// What a role may SELECT of a table, by the grants of a catalogue. Made once for the two, so that
+/// no verdict walks the grants. Contracts see the catalogue, the role and the table.
 #[derive(Drop)]
 pub struct Sight {
     catalog: Shared<Catalog>,
@@ -53,12 +53,13 @@ impl Sight {
         }
     }
 
-    /// What a subscription of this role gets of a change of this table, as [`verdict`](crate::verdict)
-    /// says. Takes no memory, and walks no grants.
+    /// What a subscription of this role gets of a change of this table, as
+    /// [`verdict`](crate::verdict) says. Takes no memory, and walks no grants.
     pub fn verdict(&self, tables: &Tables, subscription: &Subscription, change: &Change) -> Verdict
         requires role { subscription.now.role ≡ self.now.role }
         requires table { change.now.table ≡ self.now.table }
-        ensures { result ≡ verdict_of self.now.catalog (rows_of_table tables.now) subscription.now change.now }
+        ensures { let rows = rows_of_table tables.now in
+            result ≡ verdict_of self.now.catalog rows subscription.now change.now }
     {
         decided(
             self.catalog.get(),
@@ -79,8 +80,8 @@ impl Sight {
     ) -> Verdict
         requires role { subscription.now.role ≡ self.now.role }
         requires table { change.now.table ≡ self.now.table }
-        ensures verdict { result
-            ≡ verdict_of self.now.catalog (rows_of_table tables.now) subscription.now change.now }
+        ensures verdict { let rows = rows_of_table tables.now in
+            result ≡ verdict_of self.now.catalog rows subscription.now change.now }
         ensures count { steps.new ≡ steps.old + 1 }
     {
         steps.tick();
