@@ -1,5 +1,6 @@
 -- A change by its parts, and what a record does by its place.
-use Rattle.std.proofs.Common.{◌≡◌, ℕ, ◌<◌, Bool, ◌&&◌, not, List, [], ◌∷◌, length, Option, Some, None, Result, Ok, Err, refl, sym, ap, ◌∙◌, eqb, arith}
+use Rattle.std.proofs.Common.{◌≡◌, ℕ, ◌<◌, Bool, ◌&&◌, not, List, [], ◌∷◌, length, Option, Some, None, Result, Ok, Err}
+use Rattle.std.proofs.Common.{refl, sym, ap, ◌∙◌, eqb, arith}
 use Rattle.std.specs.Str.{bytes_eq}
 use Rattle.std.proofs.lemmas.Bool.Decides.{nat_tests}
 use Rattle.rt_value.specs.Choice.{◌>>=◌, some_if}
@@ -14,12 +15,15 @@ use Rattle.rt_change.specs.declared.change.Bound.{Bound}
 use Rattle.rt_change.specs.declared.change.Bound.TheVariants as bound
 use Rattle.rt_change.specs.declared.fault.ChangeFault.{ChangeFault}
 use Rattle.rt_change.specs.declared.fault.ChangeFault.TheVariants.{KeyDiffers}
-use Rattle.rt_change.specs.Binding.{◌>>◌, or_fault, keys_differ, fields_fit, used, key_given, new_fields, old_fields, cells_for, faces_for, edit_of, is_empty, bound_to, bound_at, verb_of, change_of}
+use Rattle.rt_change.specs.Binding.{◌>>◌, or_fault, keys_differ, fields_fit, used, key_given, new_fields, old_fields}
+use Rattle.rt_change.specs.Binding.{cells_for, faces_for, edit_of, is_empty, bound_to, bound_at, verb_of, change_of}
 use Rattle.rt_bind.specs.declared.parts.Parts.{Parts}
 use Rattle.rt_bind.specs.Parts.{parts_of, change_from, place_of}
 
-chain : {A B C D P X : Type 0} (a : Result A ChangeFault) (b : Result B ChangeFault) (c : Result C ChangeFault) (d : Result D ChangeFault) (p : P) (f : P → X)
-    → (a >> λ _. b >> λ _. c >> λ _. d >> λ _. Ok (f p)) ≡ (((a >> λ _. b >> λ _. c >> λ _. d) >> λ _. Ok p) >> λ q. Ok (f q))
+chain : {A B C D P X : Type 0} (a : Result A ChangeFault) (b : Result B ChangeFault) (c : Result C ChangeFault)
+    (d : Result D ChangeFault) (p : P) (f : P → X)
+    → (a >> λ _. b >> λ _. c >> λ _. d >> λ _. Ok (f p))
+    ≡ (((a >> λ _. b >> λ _. c >> λ _. d) >> λ _. Ok p) >> λ q. Ok (f q))
 chain (Err e) b c d p f = refl
 chain (Ok x) (Err e) c d p f = refl
 chain (Ok x) (Ok y) (Err e) d p f = refl
@@ -62,7 +66,8 @@ module _ (number : ℕ) (t : Table) (r : Record) (verb : Verb) where
 
   -- the record is bound to the change of these parts
   pub is_change : (parts : Parts) (empty : Bool) (moment : Option (List ℕ)) (new_trees old_trees : List (Option Json))
-      → Ok parts ≡ parts_of verb t r → empty ≡ is_empty r.keys → moment ≡ r.moment → new_trees ≡ new_trees_of → old_trees ≡ old_trees_of
+      → Ok parts ≡ parts_of verb t r → empty ≡ is_empty r.keys → moment ≡ r.moment → new_trees ≡ new_trees_of
+      → old_trees ≡ old_trees_of
       → shaped parts empty moment new_trees old_trees ≡ bound_to number t r verb
   is_change parts empty moment new_trees old_trees h e m n o =
       ap (λ (b : Bool). shaped parts b moment new_trees old_trees) e
@@ -112,7 +117,8 @@ module _ (c : Catalog) (r : Record) where
   unfolding change_of
   is_there number verb h = bound_there (table_named c r.schema r.table) (verb_of r.action) number verb h
 
-  found_there : (n : Option ℕ) (v : Option Verb) (number : ℕ) (verb : Verb) → Some (number, verb) ≡ pair n v → n ≡ Some number
+  found_there : (n : Option ℕ) (v : Option Verb) (number : ℕ) (verb : Verb) → Some (number, verb) ≡ pair n v
+      → n ≡ Some number
   found_there (Some n) (Some v) number verb h =
       let here : ℕ × Verb = (number, verb) in
       let there : ℕ × Verb = (n, v) in

@@ -1,5 +1,6 @@
 -- The new key of a bound change: its new cells give it.
-use Rattle.std.proofs.Common.{◌≡◌, ◌≢◌, ℕ, Bool, true, false, List, [], ◌∷◌, map, Option, Some, None, option_map, Result, Ok, Err, refl, subst, not}
+use Rattle.std.proofs.Common.{◌≡◌, ◌≢◌, ℕ, Bool, true, false, List, [], ◌∷◌, map, Option, Some, None, option_map}
+use Rattle.std.proofs.Common.{Result, Ok, Err, refl, subst, not}
 use Rattle.std.specs.Prelude.{⊤}
 use Rattle.std.specs.List.{AllByRecursion}
 use Rattle.std.specs.Option.{option_or}
@@ -13,6 +14,7 @@ use Rattle.rt_wal.specs.declared.records.Record.{Record}
 use Rattle.rt_catalog.specs.declared.catalog.Catalog.{Catalog}
 use Rattle.rt_catalog.specs.declared.catalog.Table.{Table}
 use Rattle.rt_catalog.specs.Access.{table_named, table_at}
+use Rattle.rt_filter.proofs.Options.{map_gives}
 use Rattle.rt_catalog.proofs.Found.{bind_some}
 use Rattle.rt_change.specs.declared.change.Verb.{Verb}
 use Rattle.rt_change.specs.declared.change.Verb.TheVariants.{Insert, Update, Delete, Truncate}
@@ -20,7 +22,9 @@ use Rattle.rt_change.specs.declared.change.Bound.{Bound}
 use Rattle.rt_change.specs.declared.change.Bound.TheVariants as bound
 use Rattle.rt_change.specs.declared.fault.ChangeFault.{ChangeFault}
 use Rattle.rt_change.specs.declared.fault.ChangeFault.TheVariants.{KeyDiffers}
-use Rattle.rt_change.specs.Binding.{◌>>◌, or_fault, given, cell_at, all_given, key_in, put, removal, edit_by, is_empty, cells_for, new_fields, old_fields, used, fields_fit, key_given, keys_differ, change_with, bound_to, bound_at, verb_of, change_of}
+use Rattle.rt_change.specs.Binding.{◌>>◌, or_fault, given, cell_at, all_given, key_in, put, removal, edit_by, is_empty}
+use Rattle.rt_change.specs.Binding.{cells_for, new_fields, old_fields, used, fields_fit, key_given, keys_differ}
+use Rattle.rt_change.specs.Binding.{change_with, bound_to, bound_at, verb_of, change_of}
 use Rattle.rt_bind.specs.Keys.{NewKeysAreGiven}
 
 not_null : (c : Option Value) (v : Value) → given c ≡ Some v → v ≢ value.Null
@@ -33,25 +37,22 @@ not_null (Some (value.Uuid n)) v h = λ e. absurd (cc)
 not_null (Some (value.Moment m)) v h = λ e. absurd (cc)
 not_null (Some value.Opaque) v h = λ e. absurd (cc)
 
-mapped_some : {A B : Type 0} (f : A → B) (o : Option A) (y : B) → option_map f o ≡ Some y → (x : A) × (o ≡ Some x) × (f x ≡ y)
-mapped_some f None y h = absurd (cc)
-mapped_some f (Some x) y h = (x, refl, cc)
+abbrev NoneNull : List Value → Type 0
+NoneNull values = AllByRecursion (λ v. v ≢ value.Null) values
 
-all_not_null : (cells : List (Option Value)) (values : List Value) → all_given cells ≡ Some values → AllByRecursion (λ v. v ≢ value.Null) values
+all_not_null : (cells : List (Option Value)) (values : List Value) → all_given cells ≡ Some values → NoneNull values
 all_not_null [] values h =
-    let P : List Value → Type 0 = AllByRecursion (λ v. v ≢ value.Null) in
     let same : [] ≡ values = cc in
-    subst P same tt
+    subst NoneNull same tt
 all_not_null (c ∷ cells) values h =
-    let P : List Value → Type 0 = AllByRecursion (λ v. v ≢ value.Null) in
     let first = bind_some (given c) (λ v. option_map (λ vs. v ∷ vs) (all_given cells)) values h in
-    let more = mapped_some (λ vs. first.0 ∷ vs) (all_given cells) values first.2 in
-    subst P more.2 (not_null c first.0 first.1, all_not_null cells more.0 more.1)
+    let more = map_gives (λ vs. first.0 ∷ vs) (all_given cells) values first.2 in
+    subst NoneNull more.2 (not_null c first.0 first.1, all_not_null cells more.0 more.1)
 
-key_not_null : (t : Table) (cells : List (Option Value)) (key : Key) → key_in t cells ≡ Some key → AllByRecursion (λ v. v ≢ value.Null) key.values
+key_not_null : (t : Table) (cells : List (Option Value)) (key : Key) → key_in t cells ≡ Some key → NoneNull key.values
 key_not_null t cells key h =
-    let P : Key → Type 0 = λ k. AllByRecursion (λ v. v ≢ value.Null) k.values in
-    let is = mapped_some (λ values. record { values = values }) (all_given (map (cell_at cells) t.key)) key h in
+    let P : Key → Type 0 = λ k. NoneNull k.values in
+    let is = map_gives (λ values. record { values = values }) (all_given (map (cell_at cells) t.key)) key h in
     subst P is.2 (all_not_null (map (cell_at cells) t.key) is.0 is.1)
 
 abbrev IsPut : Table → List (Option Value) → Edit → Type 0
@@ -82,7 +83,8 @@ module _ (c : Catalog) where
   IsWell (Ok (bound.Change ch)) = IsPut (table_at c ch.table) ch.new ch.edit
   IsWell _ = ⊤
 
-  well_then : {A : Type 0} (r : Result A ChangeFault) (f : A → Result Bound ChangeFault) → ((x : A) → IsWell (f x)) → IsWell (r >> f)
+  well_then : {A : Type 0} (r : Result A ChangeFault) (f : A → Result Bound ChangeFault) → ((x : A) → IsWell (f x))
+      → IsWell (r >> f)
   well_then (Ok x) f k = k x
   well_then (Err e) f k = tt
 
@@ -109,6 +111,7 @@ module _ (c : Catalog) where
 
   pub new_keys : NewKeysAreGiven c
   new_keys ch old new cells b e =
-      let is_put : IsPut (table_at c ch.table) ch.new ch.edit = subst IsWell b.1 (well b.0) in
-      let of : IsPut (table_at c ch.table) ch.new (edit.Put old new cells) = subst (IsPut (table_at c ch.table) ch.new) e is_put in
-      record { put = of.0; key = of.1; given = key_not_null (table_at c ch.table) ch.new new of.1 }
+      let t : Table = table_at c ch.table in
+      let is_put : IsPut t ch.new ch.edit = subst IsWell b.1 (well b.0) in
+      let of : IsPut t ch.new (edit.Put old new cells) = subst (IsPut t ch.new) e is_put in
+      record { put = of.0; key = of.1; given = key_not_null t ch.new new of.1 }

@@ -19,5 +19,5 @@ pub record IsKeyOf (c : Catalog) (ch : Change) (new : Key) (cells : List (Option
 -- a bound change puts its new cells under the key that they give, none of whose values is null
 abbrev pub NewKeysAreGiven : Catalog → Type 0
 NewKeysAreGiven c =
-    (ch : Change) (old : Option Key) (new : Key) (cells : List (Option Value)) → IsBound c ch → ch.edit ≡ Put old new cells
-    → IsKeyOf c ch new cells
+    (ch : Change) (old : Option Key) (new : Key) (cells : List (Option Value)) → IsBound c ch
+    → ch.edit ≡ Put old new cells → IsKeyOf c ch new cells

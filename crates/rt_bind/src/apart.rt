@@ -19,7 +19,7 @@ fn has_column(columns: &[Column], name: &Text) -> bool
 }
 
 /// Whether no two columns have one name. Compares each with each.
-#[tactic(auto, using(crate::proofs::Columns::apart_more, crate::proofs::Columns::apart_twice, crate::proofs::Columns::apart_all))]
+#[tactic(auto, using(crate::proofs::Columns::apart_steps))]
 fn columns_are_apart(columns: &[Column]) -> bool
     ensures { result ≡ columns_are_apart columns.now }
 {
@@ -40,8 +40,8 @@ fn tables_are_apart(catalog: &Catalog) -> bool
         .all(|table| columns_are_apart(table.columns.get()))
 }
 
-/// Whether no two columns of a table have one name, as `bind` asks for. It is so of each catalogue that was read from a
-/// text.
+/// Whether no two columns of a table have one name, as `bind` asks for. It is so of each catalogue
+/// that was read from a text.
 pub fn is_apart(catalog: &Catalog) -> bool
     ensures { IsTrue result ↔ CatalogIsApart catalog.now }
 {

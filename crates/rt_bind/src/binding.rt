@@ -100,8 +100,8 @@ fn bound_from(
     })))
 }
 
-/// The number of the record's table and its verb, where the catalogue has the table and the record is of a row or a
-/// truncate.
+/// The number of the record's table and its verb, where the catalogue has the table and the record
+/// is of a row or a truncate.
 fn place_of(catalog: &Catalog, given: &Record) -> Option<(usize, Verb)>
     ensures { result ≡ place_of catalog.now given.now }
 {
@@ -156,15 +156,17 @@ fn change_from(
     }
 }
 
-/// What a record does under a catalogue: the change of its table, or nothing where it is of no row and no truncate, or
-/// where the catalogue doesn't have its table.
+/// What a record does under a catalogue: the change of its table, or nothing where it is of no row
+/// and no truncate, or where the catalogue doesn't have its table.
 ///
-/// The first reason why the record doesn't fit its table: `KeyDiffers` where it names a key that isn't the table's; then
-/// for each element of its columns and then of its identity `ColumnUnknown` where the table has no such column and
-/// `BadValue` where the value isn't of the column's kind; then `BadValue` with the first key column that an insert or an
-/// update gives no value. `NoMemory` where memory runs out, or the table's number has no place of 32 bits.
+/// The first reason why the record doesn't fit its table: `KeyDiffers` where it names a key that
+/// isn't the table's; then for each element of its columns and then of its identity `ColumnUnknown`
+/// where the table has no such column and `BadValue` where the value isn't of the column's kind;
+/// then `BadValue` with the first key column that an insert or an update gives no value. `NoMemory`
+/// where memory runs out, or the table's number has no place of 32 bits.
 ///
-/// Trees are moved where the record's fields are the table's columns in their order, and else copied.
+/// Trees are moved where the record's fields are the table's columns in their order, and else
+/// copied.
 pub fn bind(alloc: Global, catalog: &Catalog, given: Record) -> Result<Bound, ChangeFault>
     requires record { RecordIsApart given }
     requires catalog { CatalogIsApart catalog.now }
@@ -179,7 +181,8 @@ pub fn bind(alloc: Global, catalog: &Catalog, given: Record) -> Result<Bound, Ch
     }
 }
 
-/// What a record does under a catalogue, without taking the record: its trees are copied. The answers are those of `bind`.
+/// What a record does under a catalogue, without taking the record: its trees are copied. The
+/// answers are those of `bind`.
 pub fn bind_lent(alloc: Global, catalog: &Catalog, given: &Record) -> Result<Bound, ChangeFault>
     requires record { RecordIsApart given.now }
     requires catalog { CatalogIsApart catalog.now }

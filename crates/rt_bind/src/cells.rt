@@ -27,7 +27,8 @@ fn cell_for(
     }
 }
 
-/// A table's cells: for each column the value that a field of its name gives it, of the first list or else the second.
+/// A table's cells: for each column the value that a field of its name gives it, of the first list
+/// or else the second.
 pub fn cells_for(
     alloc: Global,
     table: &Table,
@@ -63,8 +64,8 @@ fn face_for(
     }
 }
 
-/// For each column of a table how the tree is shown that a field of its name gives it, of the first list or else the
-/// second.
+/// For each column of a table how the tree is shown that a field of its name gives it, of the first
+/// list or else the second.
 pub fn faces_for(
     alloc: Global,
     table: &Table,

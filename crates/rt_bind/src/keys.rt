@@ -25,7 +25,7 @@ fn value_at(cells: &Cells, column: u32) -> Option<&Value>
 }
 
 /// The key that the cells give, where each of its columns has a value that isn't null.
-#[tactic(auto, using(crate::proofs::Given::given_none, crate::proofs::Given::given_more, crate::proofs::Given::given_bad, crate::proofs::Given::given_all))]
+#[tactic(auto, using(crate::proofs::Given::given_steps))]
 pub fn key_in(alloc: Global, table: &Table, cells: &Cells) -> Result<Option<Key>, AllocError>
     ensures { IfOk result (λ key. key ≡ key_in table.now cells.now) }
 {
@@ -78,7 +78,7 @@ fn is_among(name: &Text, names: &[Text]) -> bool
 }
 
 /// Whether a name is that of a key column.
-#[tactic(auto, using(crate::proofs::KeyNames::any_more, crate::proofs::KeyNames::any_here, crate::proofs::KeyNames::none_behind))]
+#[tactic(auto, using(crate::proofs::KeyNames::any_steps))]
 fn is_key_name(table: &Table, name: &Text) -> bool
     ensures { result ≡ list_any (bytes_eq name.now) (key_names table.now) }
 {
@@ -119,7 +119,7 @@ fn is_name_among(table: &Table, column: u32, names: &[Text]) -> bool
 }
 
 /// Whether the name of each key column is among these.
-#[tactic(auto, using(crate::proofs::KeyNames::all_more, crate::proofs::KeyNames::all_lacks, crate::proofs::KeyNames::none_behind))]
+#[tactic(auto, using(crate::proofs::KeyNames::all_steps))]
 fn has_key_names(table: &Table, names: &[Text]) -> bool
     ensures { result ≡ are_among (key_names table.now) names.now }
 {

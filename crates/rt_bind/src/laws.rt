@@ -1,4 +1,5 @@
-//! Laws of the definitions, for the proofs of the crates above. Each is a function with an empty body.
+//! Laws of the definitions, for the proofs of the crates above. Each is a function with an empty
+//! body.
 
 ghost use Rattle.rt_catalog.specs.declared.catalog.Catalog.{Catalog as Tables};
 ghost use Rattle.rt_bind.specs.Apart.{RecordsAreApart, CataloguesAreApart, FieldsAreFound};

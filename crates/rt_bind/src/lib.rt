@@ -1,4 +1,5 @@
-//! Records of a stream bound to the catalogue: what each changes, or why it doesn't fit (wal2json, format 2).
+//! Records of a stream bound to the catalogue: what each changes, or why it doesn't fit (wal2json,
+//! format 2).
 #![tactic(auto)]
 
 mod apart;

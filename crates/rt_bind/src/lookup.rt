@@ -69,7 +69,8 @@ pub fn column_named<'a>(table: &'a Table, at: usize, name: &Text) -> Option<&'a 
         .find(|column| column.name == *name)
 }
 
-/// The tree that the fields of the first list, and behind them those of the second, give the column at a place.
+/// The tree that the fields of the first list, and behind them those of the second, give the column
+/// at a place.
 pub fn tree_for<'a>(
     first: &'a [Field],
     second: &'a [Field],

@@ -16,7 +16,7 @@ use std::alloc::{AllocError, Global};
 type Faces = List<Option<Json>>;
 
 /// Whether the fields are the columns in their order.
-#[tactic(auto, using(crate::proofs::Straight::straight_more, crate::proofs::Straight::straight_differs, crate::proofs::Straight::straight_all, crate::proofs::Straight::not_as_long))]
+#[tactic(auto, using(crate::proofs::Straight::straight_steps))]
 fn are_straight(columns: &[Column], fields: &[Field]) -> bool
     ensures { result ≡ are_straight columns.now fields.now }
 {
@@ -65,8 +65,9 @@ fn faces_in_turn(
     Ok(List::new(faces))
 }
 
-/// The trees that the fields of the first list, and behind them those of the second, give the columns, as they are shown.
-/// Where the first list's fields are the columns in their order, its trees are moved, and else copied.
+/// The trees that the fields of the first list, and behind them those of the second, give the
+/// columns, as they are shown. Where the first list's fields are the columns in their order, its
+/// trees are moved, and else copied.
 fn faces_from(
     alloc: Global,
     table: &Table,

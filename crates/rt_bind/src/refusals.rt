@@ -35,7 +35,7 @@ fn field_fault(
 }
 
 /// The fault of the first field that has one.
-#[tactic(auto, using(crate::proofs::Fits::fit_more, crate::proofs::Fits::fit_fault, crate::proofs::Fits::fit_all))]
+#[tactic(auto, using(crate::proofs::Fits::fit_steps))]
 fn fields_fault(
     alloc: Global,
     table: &Table,

@@ -76,9 +76,10 @@ fn takes_all(kind: Kind) -> bool
     matches!(kind, Kind::Json | Kind::Opaque)
 }
 
-/// The value of a tree in a kind, where it has one. Null is of every kind. A whole number is a number without a dot and
-/// an exponent, in the range of its kind; a truth value is one; a text and a `varchar` are a text; a uuid and a moment
-/// are a text that reads as one (`rt_value::from_text`). Of a JSON kind and an opaque kind is every tree.
+/// The value of a tree in a kind, where it has one. Null is of every kind. A whole number is a
+/// number without a dot and an exponent, in the range of its kind; a truth value is one; a text and
+/// a `varchar` are a text; a uuid and a moment are a text that reads as one
+/// (`rt_value::from_text`). Of a JSON kind and an opaque kind is every tree.
 ///
 /// Fails for want of memory alone.
 pub fn from_json(alloc: Global, kind: Kind, tree: &Json) -> Result<Option<Value>, AllocError>
@@ -142,9 +143,10 @@ fn text_shown(alloc: Global, kind: Kind, text: Text) -> Result<Json, AllocError>
     }
 }
 
-/// How a tree of a column of a kind is shown: a moment in UTC, `YYYY-MM-DDTHH:MM:SS`, a dot and the microseconds without
-/// trailing zeros where they aren't 0, and `+00:00`; a text of a JSON kind as the tree that it is a text of, and as it
-/// is where it is none; every other tree as it is. The tree is moved.
+/// How a tree of a column of a kind is shown: a moment in UTC, `YYYY-MM-DDTHH:MM:SS`, a dot and the
+/// microseconds without trailing zeros where they aren't 0, and `+00:00`; a text of a JSON kind as
+/// the tree that it is a text of, and as it is where it is none; every other tree as it is. The
+/// tree is moved.
 ///
 /// Fails for want of memory alone.
 pub fn shown(alloc: Global, kind: Kind, tree: Json) -> Result<Json, AllocError>
@@ -156,7 +158,8 @@ pub fn shown(alloc: Global, kind: Kind, tree: Json) -> Result<Json, AllocError>
     }
 }
 
-/// How a tree of a column of a kind is shown, of a copy of the tree. Fails for want of memory alone.
+/// How a tree of a column of a kind is shown, of a copy of the tree. Fails for want of memory
+/// alone.
 pub fn shown_copy(alloc: Global, kind: Kind, tree: &Json) -> Result<Json, AllocError>
     ensures { IfOk result (λ shown. shown ≡ face kind tree.now) }
 {

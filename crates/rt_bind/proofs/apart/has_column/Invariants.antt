@@ -6,4 +6,5 @@ use Rattle.rt_bind.proofs.apart.has_column.Given as goal
 
 abbrev pub invariant-loop-column : goal.invariant-loop-column
 invariant-loop-column l =
-    list_any (bytes_eq l.name) (column_names (drop l.column-index l.columns)) ≡ list_any (bytes_eq l.name) (column_names l.columns)
+    list_any (bytes_eq l.name) (column_names (drop l.column-index l.columns))
+    ≡ list_any (bytes_eq l.name) (column_names l.columns)

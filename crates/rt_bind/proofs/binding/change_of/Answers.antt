@@ -8,7 +8,8 @@ use Rattle.rt_bind.proofs.Bounds.{is_skip, is_there, is_within}
 use Rattle.rt_bind.proofs.binding.change_of.Goals as goal
 
 pub table_at-table-requires : goal.table_at-table-requires
-table_at-table-requires c = is_within c.args.catalog.now c.args.given.now c.in-Some.number c.in-Some.verb c.in-Some.ensures
+table_at-table-requires c =
+    is_within c.args.catalog.now c.args.given.now c.in-Some.number c.in-Some.verb c.in-Some.ensures
 
 pub returns-in_ok-narrow-in-Some : goal.returns-in_ok-narrow-in-Some
 returns-in_ok-narrow-in-Some c =

@@ -8,4 +8,5 @@ use Rattle.rt_bind.proofs.lookup.find_table.Goals as goal
 pub returns : goal.returns
 returns c =
     find_from_yields_List (is_named c.args.schema.now c.args.name.now) _ _ _ c.find.ensures.ran
-    (YieldsList-from_enumerate (YieldsList-from_slice c.args.catalog.now.tables (cc)) (cc)) (λ x b q k. search (rules, tests))
+    (YieldsList-from_enumerate (YieldsList-from_slice c.args.catalog.now.tables (cc)) (cc))
+    (λ x b q k. search (rules, tests))
