@@ -1,5 +1,5 @@
 -- What bindings mean, one after another.
-use Rattle.std.proofs.Common.{◌≡◌, ℕ, ◌+◌, ◌<◌, ◌≤◌, List, [], ◌∷◌, ◌++◌, length, get_or, drop, Result, Ok, Err, refl, sym, ap, subst, ◌∙◌, arith}
+use Rattle.std.proofs.Common.{◌≡◌, ℕ, ◌+◌, ◌<◌, ◌≤◌, List, [], ◌∷◌, ◌++◌, length, get_or, drop, Result, Ok, Err, sym, ap, ◌∙◌}
 use Rattle.std.proofs.Math.ListN.{drop_of_length-le}
 use Rattle.std.proofs.lemmas.List.{append-nil}
 use Rattle.rt_catalog.specs.declared.catalog.Catalog.{Catalog}
@@ -7,7 +7,7 @@ use Rattle.rt_registry.specs.declared.binding.Binding.{Binding}
 use Rattle.rt_registry.specs.declared.binding.Subscribed.{Subscribed}
 use Rattle.rt_registry.specs.declared.fault.BindingWhy.{BindingWhy}
 use Rattle.rt_registry.specs.declared.fault.RegistryFault.TheVariants.{BadBinding}
-use Rattle.rt_registry.specs.Bindings.{Refusal, ◌>>◌, at_count, all_from, meaning_of_binding}
+use Rattle.rt_registry.specs.Bindings.{◌>>◌, at_count, all_from, meaning_of_binding}
 use Rattle.rt_roster.specs.Meant.{told}
 use Rattle.rt_roster.proofs.Columns.{at_place}
 use Rattle.rt_roster.proofs.Tested.{onto, onto_nothing, onto_more}

@@ -3,8 +3,6 @@ use Rattle.std.specs.Prelude.{ℕ, Bool, ◌&&◌, ◌||◌, not, List, [], Resu
 use Rattle.std.specs.Str.{bytes_eq}
 use Rattle.rt_value.specs.declared.claims.Claims.{Claims}
 use Rattle.rt_filter.specs.declared.filter.Shown.{Shown}
-use Rattle.rt_filter.specs.declared.fault.FilterFault.{FilterFault}
-use Rattle.rt_filter.specs.declared.fault.FilterFault.TheVariants as fault
 use Rattle.rt_catalog.specs.declared.catalog.Catalog.{Catalog}
 use Rattle.rt_catalog.specs.declared.catalog.Column.{Column}
 use Rattle.rt_catalog.specs.declared.catalog.Table.{Table}
