@@ -1,0 +1,30 @@
+-- The stack's order doesn't matter for whether an EXISTS is open.
+use Rattle.std.proofs.Common.{◌≡◌, Bool, true, false, ◌||◌, List, [], ◌∷◌, ◌++◌, reverse, refl, ap, sym, ◌∙◌}
+use Rattle.std.specs.List.{list_any}
+use Rattle.std.proofs.lemmas.Grind.{reverse_onto}
+use Rattle.rt_policy.specs.Machine.{inside, is_where}
+use Rattle.rt_policy.specs.declared.building.Frame.{Frame}
+use Rattle.rt_policy.specs.declared.building.Frame.TheVariants as frame
+
+inside_append : (xs ys : List Frame) → inside (xs ++ ys) ≡ (inside xs || inside ys)
+inside_append [] ys = refl
+inside_append (frame.Not l ∷ xs) ys = inside_append xs ys
+inside_append (frame.Group l s ∷ xs) ys = inside_append xs ys
+inside_append (frame.Where l s t ∷ xs) ys = refl
+
+turned : (a : Bool) → (a || false) ≡ a
+turned true = refl
+turned false = refl
+
+always : (a : Bool) → (a || true) ≡ true
+always true = refl
+always false = refl
+
+last : (xs : List Frame) (f : Frame) → inside (reverse xs ++ f ∷ []) ≡ inside (reverse (f ∷ xs))
+last xs f = ap inside (sym (reverse_onto xs f []))
+
+pub inside_reversed : (xs : List Frame) → list_any is_where xs ≡ inside (reverse xs)
+inside_reversed [] = refl
+inside_reversed (frame.Not l ∷ xs) = inside_reversed xs ∙ sym (turned (inside (reverse xs))) ∙ sym (inside_append (reverse xs) (frame.Not l ∷ [])) ∙ last xs (frame.Not l)
+inside_reversed (frame.Group l s ∷ xs) = inside_reversed xs ∙ sym (turned (inside (reverse xs))) ∙ sym (inside_append (reverse xs) (frame.Group l s ∷ [])) ∙ last xs (frame.Group l s)
+inside_reversed (frame.Where l s t ∷ xs) = sym (always (inside (reverse xs))) ∙ sym (inside_append (reverse xs) (frame.Where l s t ∷ [])) ∙ last xs (frame.Where l s t)
