@@ -5,12 +5,13 @@
 
 ghost use Rattle.std.specs.Prelude.{IfOk};
 ghost use Rattle.rt_wal.specs.Records.{IsRecord};
+ghost use Rattle.rt_bind.specs.Apart.{CatalogIsApart};
 
 mod answers;
-mod table;
 
 use case_lines::{answer_cases, text_of};
-use rt_bind::{bind, bind_lent, from_json, is_apart, shown_copy};
+use catalog_lines::{catalog_of, kind_named};
+use rt_bind::{bind, bind_lent, from_json, shown_copy};
 use rt_catalog::Catalog;
 use rt_change::{Bound, ChangeFault};
 use rt_json::{Json, JsonFault, read};
@@ -42,11 +43,10 @@ fn answer_of(alloc: Global, bound: Result<Bound, ChangeFault>) -> io::Result<Str
 }
 
 /// Binds the record of a line, lent and taken.
-fn binding(alloc: Global, catalog: &Catalog, line: &str) -> io::Result<String> {
+fn binding(alloc: Global, catalog: &Catalog, line: &str) -> io::Result<String>
+    requires { CatalogIsApart catalog.now }
+{
     let given = record_of(alloc, line)?;
-    if !is_apart(catalog) {
-        return Err(io::ErrorKind::InvalidInput.into());
-    }
     let lent = answer_of(alloc, bind_lent(alloc, catalog, &given))?;
     let taken = answer_of(alloc, bind(alloc, catalog, given))?;
     if lent.as_str() == taken.as_str() {
@@ -66,7 +66,7 @@ fn tree_of(alloc: Global, text: &str) -> io::Result<Json> {
 
 fn value(alloc: Global, case: &str) -> io::Result<String> {
     let (kind, text) = case.split_once(' ').ok_or(io::ErrorKind::InvalidInput)?;
-    let kind = table::kind_named(kind).ok_or(io::ErrorKind::InvalidInput)?;
+    let kind = kind_named(kind).ok_or(io::ErrorKind::InvalidInput)?;
     let tree = tree_of(alloc, text)?;
     match from_json(alloc, kind, &tree)? {
         Some(value) => Ok(answers::value(alloc, &value)?),
@@ -76,7 +76,7 @@ fn value(alloc: Global, case: &str) -> io::Result<String> {
 
 fn shown(alloc: Global, case: &str) -> io::Result<String> {
     let (kind, text) = case.split_once(' ').ok_or(io::ErrorKind::InvalidInput)?;
-    let kind = table::kind_named(kind).ok_or(io::ErrorKind::InvalidInput)?;
+    let kind = kind_named(kind).ok_or(io::ErrorKind::InvalidInput)?;
     let tree = shown_copy(alloc, kind, &tree_of(alloc, text)?)?;
     answers::tree(alloc, &tree)
 }
@@ -93,7 +93,7 @@ fn answer(alloc: Global, case: &str) -> io::Result<String> {
         "shown" => shown(alloc, rest),
         "bind" => {
             let (table, line) = rest.split_once(" | ").ok_or(io::ErrorKind::InvalidInput)?;
-            let catalog = table::catalog_of(alloc, table)?;
+            let catalog = catalog_of(alloc, table)?;
             binding(alloc, &catalog, line)
         }
         _ => Err(io::ErrorKind::InvalidInput.into()),
