@@ -1,0 +1,4 @@
+pub mod Falling
+pub mod Leading
+pub mod Middles
+pub mod Places
