@@ -1,6 +1,6 @@
 -- The answer to tokens from their first on, and to those from one place on.
-use Rattle.std.proofs.Common.{◌≡◌, ℕ, ◌+◌, ◌-◌, ◌<◌, ◌≤◌, Bool, true, List, take, drop, length, Result, Ok, Err, ap, sym}
-use Rattle.std.proofs.Common.{subst, ◌∙◌, arith, min, false, nat_le, All}
+use Rattle.std.proofs.Common.{◌≡◌, ℕ, ◌+◌, ◌-◌, ◌<◌, ◌≤◌, min, nat_le, Bool, true, false, List, take, drop, length, All}
+use Rattle.std.proofs.Common.{Result, Ok, Err, ap, sym, subst, ◌∙◌, arith}
 use Rattle.std.proofs.lemmas.Bool.{le-leb, lt-leb}
 use Rattle.std.specs.List.{list_any}
 use Rattle.std.proofs.lemmas.List.Elements.{All-drop, All-take}
@@ -15,8 +15,8 @@ use Rattle.rt_policy.specs.declared.expr.Expr.{Expr}
 use Rattle.rt_policy.specs.declared.fault.ExprFault.{ExprFault}
 use Rattle.rt_policy.specs.declared.fault.ExprFault.TheVariants.{BadExpr, TooDeep}
 use Rattle.rt_policy.proofs.Exclusive.{one_end}
-use Rattle.rt_expr.specs.Recognized.{EndsAt}
-use Rattle.rt_expr.specs.Long.{is_long_token}
+use Rattle.rt_sketch.specs.Recognized.{EndsAt}
+use Rattle.rt_lexeme.specs.Long.{is_long_token}
 use Rattle.rt_expr.specs.Tells.{Answers, Deep, Shallow}
 use Rattle.rt_expr.proofs.LongExpr.{long_names}
 use Rattle.rt_expr.proofs.Parsed.{reads_from, fails_from}
@@ -49,7 +49,8 @@ ends_within text ts at h f = let w = f.ends.stuck.within in omega (arith, w, len
 pub built_shallow : (xs : List Lexeme) (e : Expr) (to : ℕ) → Shallow xs → Ends Written xs to e
     → Ends Written xs to e × (is_shallow e ≡ true)
 built_shallow xs e to s h =
-    let same = one_end xs 0 s.tree e (0 + s.to) (0 + to) (reads_from xs 0 s.to s.tree s.ends) (reads_from xs 0 to e h) in
+    let there = reads_from xs 0 s.to s.tree s.ends in
+    let same = one_end xs 0 s.tree e (0 + s.to) (0 + to) there (reads_from xs 0 to e h) in
     (h, subst (λ (v : Expr). is_shallow v ≡ true) same.0 s.shallow)
 
 pub front_of_text : (text : List ℕ) (ts front : List Token) (to : ℕ) → front ≡ take to ts

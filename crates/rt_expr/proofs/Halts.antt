@@ -1,7 +1,6 @@
 -- What a step that isn't the last shows.
-use Rattle.std.proofs.Common.{◌≡◌, ℕ, List, Option, Some, None, Err, take, subst, sym, ap, ◌∙◌, length, ◌<◌, get_or, option_map}
+use Rattle.std.proofs.Common.{◌≡◌, ℕ, List, Option, Some, None, Err, take, subst, sym, ap, ◌∙◌, length}
 use Rattle.std.proofs.lemmas.List.{length-map}
-use Rattle.std.proofs.lemmas.Option.{slice_get-get_or, slice_get-map}
 use Rattle.std.specs.List.{slice_get}
 use Rattle.rt_value.specs.Places.{run, ended, ends, Ends, Breaks}
 use Rattle.rt_sql.specs.declared.lexeme.Token.{Token}
@@ -38,8 +37,3 @@ pub whole_breaks : (text : List ℕ) (ts : List Token) (s : State) (look : Optio
 whole_breaks text ts s look h none is =
     subst (λ (n : ℕ). Breaks Written (lexemes text ts) n) (length-map ts (lexeme_of text))
     (end_breaks (lexemes text ts) s h (ap (λ (o : Option Lexeme). ended (step s o)) (sym none) ∙ is))
-
-pub lexeme_there : (text : List ℕ) (ts : List Token) (n : ℕ) (d : Token) → n < length ts
-    → slice_get (lexemes text ts) n ≡ Some (lexeme_of text (get_or ts n d))
-lexeme_there text ts n d lt =
-    slice_get-map (lexeme_of text) ts n ∙ ap (option_map (lexeme_of text)) (slice_get-get_or ts n d lt)

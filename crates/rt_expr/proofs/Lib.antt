@@ -1,15 +1,8 @@
-pub mod Among
 pub mod Answered
-pub mod Drawn
 pub mod Halts
-pub mod HeightsOf
 pub mod Inside
-pub mod Kept
-pub mod Leaves
 pub mod Long
 pub mod LongExpr
 pub mod Opens
 pub mod Parsed
 pub mod Plain
-pub mod Steps
-pub mod Tokens

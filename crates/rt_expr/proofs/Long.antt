@@ -1,14 +1,14 @@
 -- A name of an expression is longer than a name may be exactly where one of its tokens keeps such a name.
-use Rattle.std.proofs.Common.{◌≡◌, ℕ, Bool, true, false, ◌||◌, List, [], ◌∷◌, ◌++◌, map, Option, inl, inr, refl, ap, sym, ◌∙◌}
+use Rattle.std.proofs.Common.{◌≡◌, ℕ, Bool, true, false, ◌||◌, List, [], ◌∷◌, ◌++◌, map, Option, inl, inr}
+use Rattle.std.proofs.Common.{refl, ap, sym, ◌∙◌}
 use Rattle.std.specs.List.{list_any, flat_map}
+use Rattle.std.proofs.lemmas.Bool.{or_parts}
 use Rattle.rt_sql.specs.declared.lexeme.TokenKind.{TokenKind}
 use Rattle.rt_sql.specs.declared.lexeme.TokenKind.TheVariants as kind
 use Rattle.rt_sql.specs.Lexeme.{Lexeme, IsKeyword, IsSign, kept_name}
 use Rattle.rt_policy.specs.Grammar as g
-use Rattle.rt_policy.specs.Grammar.{IsText, IsNumber, IsNameWithin, Keywords, Length, Lengths, Brackets, IsType, IsLiteral}
-use Rattle.rt_policy.specs.Grammar.{IsAuth, IsCall, IsColumn, IsTableName, IsSelected, IsAlias, IsComparison, tested_word}
-use Rattle.rt_policy.specs.Grammar.{IsExpr, Ors, IsConjunction, Ands, IsNegation, TestedBy, Related, Items, IsOperand, Where}
-use Rattle.rt_policy.specs.Grammar.{conjunction, disjunction}
+use Rattle.rt_policy.specs.Grammar.{IsText, IsNumber, IsNameWithin, Keywords, Length, Lengths, Brackets, IsType}
+use Rattle.rt_policy.specs.Grammar.{IsLiteral, IsAuth, IsComparison, tested_word}
 use Rattle.rt_policy.specs.Sizes.{names_in, names_step, names_of_type, names_of_option, is_long}
 use Rattle.rt_policy.specs.declared.judge.Comparison.{Comparison}
 use Rattle.rt_policy.specs.declared.judge.Tested.{Tested}
@@ -19,7 +19,7 @@ use Rattle.rt_policy.specs.declared.expr.Expr.{Expr}
 use Rattle.rt_policy.specs.declared.expr.Expr.TheVariants as expr
 use Rattle.rt_policy.specs.declared.expr.Expr.TheOpen.{Expr-F}
 use Rattle.rt_policy.specs.declared.expr.Expr.TheFolds.{fold-roll-Expr}
-use Rattle.rt_expr.specs.Long.{long_by, is_long_token}
+use Rattle.rt_lexeme.specs.Long.{long_by, is_long_token}
 
 abbrev pub any_long : List Lexeme → Bool
 any_long xs = list_any is_long_token xs
@@ -82,14 +82,11 @@ Bare xs ys = any_long xs ≡ any_long ys
 abbrev pub Of : Names → List Lexeme → List Lexeme → Type 0
 Of names xs ys = any_long xs ≡ (list_any is_long names || any_long ys)
 
-or_false : (a b : Bool) → (a || b) ≡ false → (a ≡ false) × (b ≡ false)
-or_false true b h = absurd cc
-or_false false b h = (refl, h)
-
-keywords_bare : {words : Names} {xs ys : List Lexeme} → Keywords words xs ys → list_any is_long words ≡ false → Bare xs ys
+keywords_bare : {words : Names} {xs ys : List Lexeme} → Keywords words xs ys → list_any is_long words ≡ false
+    → Bare xs ys
 keywords_bare g.no_keyword h = refl
 keywords_bare (g.keyword {word = w} {words = ws} {x = x} {xs = xs} k more) h =
-    let both = or_false (is_long w) (list_any is_long ws) h in
+    let both = or_parts (is_long w) (list_any is_long ws) h in
     skip x xs (keyword_is w x k ∙ both.0) ∙ keywords_bare more both.1
 
 length_bare : {xs ys : List Lexeme} → Length xs ys → Bare xs ys
@@ -99,13 +96,15 @@ length_bare (g.length {left = l} {n = n} {right = r} {digits = d} {xs = xs} a b 
 
 lengths_bare : {xs ys : List Lexeme} → Lengths xs ys → Bare xs ys
 lengths_bare (g.one_length h) = length_bare h
-lengths_bare (g.two_lengths {left = l} {n = n} {comma = c} {m = m} {right = r} {digits = d} {more = e} {xs = xs} a b f h k) =
+lengths_bare
+    (g.two_lengths {left = l} {n = n} {comma = c} {m = m} {right = r} {digits = d} {more = e} {xs = xs} a b f h k) =
     skip l (n ∷ c ∷ m ∷ r ∷ xs) (sign_is _ l a) ∙ skip n (c ∷ m ∷ r ∷ xs) (number_is d n b)
     ∙ skip c (m ∷ r ∷ xs) (sign_is _ c f) ∙ skip m (r ∷ xs) (number_is e m h) ∙ skip r xs (sign_is _ r k)
 
 brackets_bare : {b : Bool} {xs ys : List Lexeme} → Brackets b xs ys → Bare xs ys
 brackets_bare g.no_brackets = refl
-brackets_bare (g.brackets {left = l} {right = r} {xs = xs} a b) = skip l (r ∷ xs) (sign_is _ l a) ∙ skip r xs (sign_is _ r b)
+brackets_bare (g.brackets {left = l} {right = r} {xs = xs} a b) =
+    skip l (r ∷ xs) (sign_is _ l a) ∙ skip r xs (sign_is _ r b)
 
 one_name : (a b : Bool) → (a || b) ≡ ((a || false) || b)
 one_name true b = refl
@@ -131,8 +130,8 @@ literal_bare (g.null {x = x} {xs = xs} h) = skip x xs (keyword_is _ x h)
 
 pub auth_bare : {name : List ℕ} {xs ys : List Lexeme} → IsAuth name xs ys → is_long name ≡ false → Bare xs ys
 auth_bare {name = name} (g.auth {a = a} {dot = d} {f = f} {left = l} {right = r} {xs = xs} h i j m n) short =
-    skip a (d ∷ f ∷ l ∷ r ∷ xs) (keyword_is _ a h) ∙ skip d (f ∷ l ∷ r ∷ xs) (sign_is _ d i) ∙ skip f (l ∷ r ∷ xs) (keyword_is name f j ∙ short)
-    ∙ skip l (r ∷ xs) (sign_is _ l m) ∙ skip r xs (sign_is _ r n)
+    skip a (d ∷ f ∷ l ∷ r ∷ xs) (keyword_is _ a h) ∙ skip d (f ∷ l ∷ r ∷ xs) (sign_is _ d i)
+    ∙ skip f (l ∷ r ∷ xs) (keyword_is name f j ∙ short) ∙ skip l (r ∷ xs) (sign_is _ l m) ∙ skip r xs (sign_is _ r n)
 
 -- the names of each form
 

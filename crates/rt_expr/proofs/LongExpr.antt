@@ -1,13 +1,14 @@
 -- The same of expressions.
-use Rattle.std.proofs.Common.{◌≡◌, ℕ, Bool, true, false, ◌||◌, List, [], ◌∷◌, ◌++◌, map, Option, Some, None, refl, ap, sym, ◌∙◌}
+use Rattle.std.proofs.Common.{◌≡◌, ℕ, Bool, true, false, ◌||◌, List, [], ◌∷◌, ◌++◌, map, Option, Some, None}
+use Rattle.std.proofs.Common.{refl, ap, sym, ◌∙◌}
 use Rattle.std.specs.List.{list_any, flat_map}
 use Rattle.std.proofs.lemmas.List.Folds.{list_any-append}
-use Rattle.std.proofs.Math.Bool.{or_assoc}
+use Rattle.std.proofs.Math.Bool.{or_assoc, or-false}
 use Rattle.rt_sql.specs.Lexeme.{Lexeme}
 use Rattle.rt_policy.specs.Grammar as g
 use Rattle.rt_policy.specs.Grammar.{IsNameWithin, IsCall, IsColumn, IsTableName, IsSelected, IsAlias}
-use Rattle.rt_policy.specs.Grammar.{IsExpr, Ors, IsConjunction, Ands, IsNegation, TestedBy, Related, Items, IsOperand, Where}
-use Rattle.rt_policy.specs.Grammar.{conjunction, disjunction}
+use Rattle.rt_policy.specs.Grammar.{IsExpr, Ors, IsConjunction, Ands, IsNegation, TestedBy, Related, Items}
+use Rattle.rt_policy.specs.Grammar.{IsOperand, Where, conjunction, disjunction}
 use Rattle.rt_policy.specs.Sizes.{names_in, names_step, names_of_option, names_of_selected, is_long, has_long_name}
 use Rattle.rt_policy.specs.declared.judge.Comparison.{Comparison}
 use Rattle.rt_policy.specs.declared.expr.Selected.{Selected}
@@ -15,8 +16,8 @@ use Rattle.rt_policy.specs.declared.expr.Expr.{Expr}
 use Rattle.rt_policy.specs.declared.expr.Expr.TheVariants as expr
 use Rattle.rt_policy.specs.declared.expr.Expr.TheOpen.{Expr-F}
 use Rattle.rt_policy.specs.declared.expr.Expr.TheFolds.{fold-roll-Expr}
-use Rattle.rt_expr.proofs.Long.{any_long, Names, Of, keyword_is, sign_is, asked_is, comparison_is, text_is, number_is, skip}
-use Rattle.rt_expr.proofs.Long.{type_of, literal_bare, auth_bare, named}
+use Rattle.rt_expr.proofs.Long.{any_long, Names, Of, keyword_is, sign_is, asked_is, comparison_is, text_is}
+use Rattle.rt_expr.proofs.Long.{number_is, skip, type_of, literal_bare, auth_bare, named}
 use Rattle.rt_expr.proofs.Long.{long_literal, long_cast, long_uid, long_role, long_claim, long_column, long_group}
 use Rattle.rt_expr.proofs.Long.{long_compare, long_one_of, long_not, long_and, long_or, long_is}
 
@@ -26,10 +27,6 @@ Says b xs ys = any_long xs ≡ (b || any_long ys)
 
 long_of : (e : Expr) (names : Names) → names_in e ≡ names → has_long_name e ≡ list_any is_long names
 long_of e names h = ap (list_any is_long) h
-
-or_none : (b : Bool) → (b || false) ≡ b
-or_none true = refl
-or_none false = refl
 
 any_in : List Expr → Bool
 any_in [] = false
@@ -44,14 +41,14 @@ any_all (e ∷ es) =
 
 any_more : (es : List Expr) (e : Expr) → any_in (es ++ e ∷ []) ≡ (any_in es || has_long_name e)
 unfolding any_in
-any_more [] e = or_none (has_long_name e)
+any_more [] e = or-false (has_long_name e)
 any_more (x ∷ xs) e =
     ap (λ b. has_long_name x || b) (any_more xs e)
     ∙ sym (or_assoc (has_long_name x) (any_in xs) (has_long_name e))
 
 any_one : (e : Expr) → any_in (e ∷ []) ≡ has_long_name e
 unfolding any_in
-any_one e = or_none (has_long_name e)
+any_one e = or-false (has_long_name e)
 
 conjunction_long : (all : List Expr) → has_long_name (conjunction all) ≡ any_in all
 conjunction_long [] = long_of _ _ (long_and []) ∙ any_all []
@@ -88,10 +85,10 @@ call_of (g.jwt {name = name} {arrow = w} {x = x} {xs = xs} {ys = ys} h a t) =
 column_of : {q : Option (List ℕ)} {name : List ℕ} {xs ys : List Lexeme} → IsColumn q name xs ys
     → Of (names_of_option q ++ name ∷ []) xs ys
 column_of (g.bare {name = name} {x = x} {xs = xs} n) =
-    named name x xs n ∙ ap (λ b. b || any_long xs) (sym (or_none (is_long name)))
+    named name x xs n ∙ ap (λ b. b || any_long xs) (sym (or-false (is_long name)))
 column_of (g.qualified {qualifier = q} {name = name} {x = x} {dot = d} {y = y} {xs = xs} n s m) =
     named q x (d ∷ y ∷ xs) n ∙ ap (λ b. is_long q || b) (skip d (y ∷ xs) (sign_is _ d s) ∙ named name y xs m
-    ∙ ap (λ b. b || any_long xs) (sym (or_none (is_long name))))
+    ∙ ap (λ b. b || any_long xs) (sym (or-false (is_long name))))
     ∙ sym (or_assoc (is_long q) (is_long name || false) (any_long xs))
 
 selected_of : {s : Selected} {xs ys : List Lexeme} → IsSelected s xs ys → Of (names_of_selected s) xs ys
@@ -108,9 +105,9 @@ table_of (g.in_schema {schema = q} {name = name} {x = x} {dot = d} {y = y} {xs =
 alias_of : {alias : Option (List ℕ)} {xs ys : List Lexeme} → IsAlias alias xs ys → Of (names_of_option alias) xs ys
 alias_of g.no_alias = refl
 alias_of (g.alias {name = name} {x = x} {xs = xs} n) =
-    named name x xs n ∙ ap (λ b. b || any_long xs) (sym (or_none (is_long name)))
+    named name x xs n ∙ ap (λ b. b || any_long xs) (sym (or-false (is_long name)))
 alias_of (g.as_alias {name = name} {x = x} {y = y} {xs = xs} k n) =
-    skip x (y ∷ xs) (keyword_is _ x k) ∙ named name y xs n ∙ ap (λ b. b || any_long xs) (sym (or_none (is_long name)))
+    skip x (y ∷ xs) (keyword_is _ x k) ∙ named name y xs n ∙ ap (λ b. b || any_long xs) (sym (or-false (is_long name)))
 
 where_long : Option Expr → Bool
 where_long None = false
@@ -197,7 +194,8 @@ mutual
       ∙ or_assoc (has_long_name a) (any_in all) (any_long zs)
       ∙ ap (λ v. has_long_name a || v) (items_of items ∙ ap (λ v. v || any_long ys) (any_one b)
       ∙ sym (operand_of o) ∙ sym (skip x (l ∷ xs) (keyword_is _ x k) ∙ skip l xs (sign_is _ l s)))
-  related_of (g.not_among {a = a} {b = b} {all = all} {n = n} {x = x} {left = l} {xs = xs} {ys = ys} {zs = zs} m k s o items) =
+  related_of
+      (g.not_among {a = a} {b = b} {all = all} {n = n} {x = x} {left = l} {xs = xs} {ys = ys} {zs = zs} m k s o items) =
       ap (λ v. v || any_long zs) (one_of_long true a all)
       ∙ or_assoc (has_long_name a) (any_in all) (any_long zs)
       ∙ ap (λ v. has_long_name a || v) (items_of items ∙ ap (λ v. v || any_long ys) (any_one b)
@@ -225,11 +223,13 @@ mutual
   operand_of (g.own_column {qualifier = q} {name = name} {xs = xs} {ys = ys} h) =
       formed xs ys (column_of h) (long_of _ _ (long_column q name))
   operand_of (g.group {e = e} {left = l} {right = r} {xs = xs} {ys = ys} s h t) =
-      formed (l ∷ xs) ys (skip l xs (sign_is _ l s) ∙ expr_of h ∙ ap (λ v. has_long_name e || v) (skip r ys (sign_is _ r t)))
+      formed (l ∷ xs) ys (skip l xs (sign_is _ l s) ∙ expr_of h
+      ∙ ap (λ v. has_long_name e || v) (skip r ys (sign_is _ r t)))
       (long_of _ _ (long_group e))
   operand_of (g.exists {s = s} {schema = schema} {table = table} {name = alias} {condition = c} {x = x} {left = l}
       {select = q} {from = f} {right = r} {xs = xs} {ys = ys} {zs = zs} {us = us} {vs = vs} k o p w m t n d e) =
-      formed (x ∷ l ∷ q ∷ xs) vs (skip x (l ∷ q ∷ xs) (keyword_is _ x k) ∙ skip l (q ∷ xs) (sign_is _ l o) ∙ skip q xs (keyword_is _ q p) ∙ selected_of w
+      formed (x ∷ l ∷ q ∷ xs) vs (skip x (l ∷ q ∷ xs) (keyword_is _ x k) ∙ skip l (q ∷ xs) (sign_is _ l o)
+      ∙ skip q xs (keyword_is _ q p) ∙ selected_of w
       ∙ ap (λ v. list_any is_long (names_of_selected s) || v) (skip f ys (keyword_is _ f m) ∙ table_of t
       ∙ ap (λ v. is_long schema || (is_long table || v)) (alias_of n
       ∙ ap (λ v. list_any is_long (names_of_option alias) || v) (where_of d
@@ -244,4 +244,4 @@ mutual
 
 -- the names of an expression, by its tokens
 pub long_names : (e : Expr) (xs : List Lexeme) → g.Written e xs → has_long_name e ≡ any_long xs
-long_names e xs h = sym (or_none (has_long_name e)) ∙ sym (expr_of h)
+long_names e xs h = sym (or-false (has_long_name e)) ∙ sym (expr_of h)

@@ -1,5 +1,6 @@
 -- The answer to tokens from one place on.
-use Rattle.std.proofs.Common.{◌≡◌, ℕ, ◌+◌, ◌-◌, ◌≤◌, true, false, List, drop, Result, Ok, Err, ap, sym, subst, ◌∙◌, arith}
+use Rattle.std.proofs.Common.{◌≡◌, ℕ, ◌+◌, ◌-◌, ◌≤◌, true, false, List, drop, Result, Ok, Err}
+use Rattle.std.proofs.Common.{ap, sym, subst, ◌∙◌, arith}
 use Rattle.rt_value.specs.Places.{Ends, Breaks}
 use Rattle.rt_sql.specs.Lexeme.{Lexeme}
 use Rattle.rt_policy.specs.Grammar.{Written}
@@ -19,7 +20,8 @@ forward from n = omega arith
 back : (from n : ℕ) → n ≡ (from + n) - from
 back from n = omega arith
 
-pub reads_from : (xs : List Lexeme) (from n : ℕ) (e : Expr) → Ends Written (drop from xs) n e → Reads xs from e (from + n)
+pub reads_from : (xs : List Lexeme) (from n : ℕ) (e : Expr) → Ends Written (drop from xs) n e
+    → Reads xs from e (from + n)
 reads_from xs from n e h = record {
   forward = forward from n;
   ends = subst (λ (k : ℕ). Ends Written (drop from xs) k e) (back from n) h;

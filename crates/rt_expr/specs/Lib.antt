@@ -1,10 +1,2 @@
-pub mod Among
 pub mod Answers
-pub mod Heights
-pub mod Long
-pub mod Look
-pub mod Plain
-pub mod Recognized
-pub mod Sketch
-pub mod Sketched
 pub mod Tells

@@ -43,7 +43,8 @@ pub record Shallow (xs : List Lexeme) : Type 0 where
 abbrev pub Answers : List Lexeme → Result (Expr × ℕ) ExprFault → Type 0
 Answers xs (Ok found) = Ends Written xs found.1 found.0 × (is_shallow found.0 ≡ true)
 Answers xs (Err (BadExpr at)) = Breaks Written xs at
-Answers xs (Err (TooDeep to long)) = (e : Expr) × Ends Written xs to e × (is_shallow e ≡ false) × (has_long_name e ≡ long)
+Answers xs (Err (TooDeep to long)) =
+    (e : Expr) × Ends Written xs to e × (is_shallow e ≡ false) × (has_long_name e ≡ long)
 Answers xs (Err NoMemory) = Unit {0}
 Answers xs (Err UnknownName) = ⊥
 Answers xs (Err BadType) = ⊥

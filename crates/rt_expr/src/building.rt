@@ -4,8 +4,8 @@ ghost use Rattle.rt_sql.specs.Lexeme.{IsTokenOf, lexeme_of, lexemes};
 ghost use Rattle.rt_policy.specs.Machine as spec;
 ghost use Rattle.rt_expr.specs.Answers.{Advances, Ran, Built};
 
-use crate::look::{at_end, at_token};
-use crate::operands::{start, step};
+use crate::steps::{start, step};
+use rt_lexeme::{at_end, at_token};
 use rt_policy::Expr;
 use rt_policy::building::{Frame, Level, Mode, Slot, State, Stop};
 use rt_policy::part::Part;

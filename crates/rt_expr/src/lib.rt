@@ -2,19 +2,9 @@
 #![tactic(auto)]
 
 mod building;
-mod casts;
-mod classes;
-mod columns;
-mod goals;
-mod look;
 mod machine;
-mod measuring;
-mod operands;
 mod parsing;
-mod recognizing;
-mod sketch;
-mod sketching;
-mod sources;
+mod steps;
 mod trees;
 
 pub use parsing::parse;

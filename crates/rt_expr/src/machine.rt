@@ -1,34 +1,43 @@
-ghost use Rattle.std.specs.Prelude.{◌≡◌, ◌++◌, ◌∷◌, [], IfOk, Some, None, MatchOption};
-ghost use Rattle.std.specs.List.{list_any};
+ghost use Rattle.std.specs.Prelude.{◌≡◌, ◌∷◌, IfOk, MatchOption};
 ghost use Rattle.rt_value.specs.Places.{next};
 ghost use Rattle.rt_policy.specs.Machine as spec;
 ghost use Rattle.rt_policy.specs.Machine.{Gives};
 
-use crate::sources::exists_where;
-use crate::trees::{compared, conjunction, disjunction, group, is, none, not, one_of, pushed};
+use crate::trees::{
+    compared, conjunction, disjunction, exists_where, group, is, none, not, one_of, pushed,
+};
+use rt_lexeme::tested_of;
+use rt_policy::Expr;
 use rt_policy::building::{Frame, Level, Mode, Slot, State, Stop};
 use rt_policy::stack::Stack;
 use rt_policy::words::{Class, Sign, Word};
-use rt_policy::{Expr, Tested};
 use rt_value::List;
 use std::alloc::{AllocError, Global};
 
+/// What stands before: what is open, and what stands complete behind the last that is open.
+#[derive(Drop)]
+pub struct Around {
+    pub stack: Stack<Frame>,
+    pub level: Level,
+}
+
+pub fn state(around: Around, mode: Mode) -> State
+    ensures { result ≡ spec.state around.stack around.level mode }
+{
+    let Around { stack, level } = around;
+    State { stack, level, mode }
+}
+
 /// An operand is read.
-pub fn given(
-    alloc: Global,
-    stack: Stack<Frame>,
-    level: Level,
-    slot: Slot,
-    v: Expr,
-) -> Result<State, Stop>
-    ensures { Gives result (next (spec.given stack level slot v)) }
+pub fn given(alloc: Global, around: Around, slot: Slot, v: Expr) -> Result<State, Stop>
+    ensures { Gives result (next (spec.given around.stack around.level slot v)) }
 {
     let mode = match slot {
         Slot::First => Mode::Operand(v),
         Slot::Right(op, a) => Mode::Related(compared(alloc, op, a, v)?),
         Slot::Item(negated, a, items) => Mode::Items(negated, a, pushed(items, v)?),
     };
-    Ok(State { stack, level, mode })
+    Ok(state(around, mode))
 }
 
 /// An expression is read.
@@ -42,28 +51,24 @@ fn closed(alloc: Global, stack: Stack<Frame>, e: Expr, class: Option<Class>) -> 
         Some(Frame::Group(level, slot)) => match class {
             Some(Class::Sign(Sign::Close)) => {
                 let e = group(alloc, e)?;
-                given(alloc, stack, level, slot, e)
+                given(alloc, Around { stack, level }, slot, e)
             }
             _ => Err(Stop::Bad),
         },
         Some(Frame::Where(level, slot, source)) => match class {
             Some(Class::Sign(Sign::Close)) => {
                 let e = exists_where(alloc, source, e)?;
-                given(alloc, stack, level, slot, e)
+                given(alloc, Around { stack, level }, slot, e)
             }
             _ => Err(Stop::Bad),
         },
     }
 }
 
-fn wanting(stack: Stack<Frame>, level: Level, slot: Slot) -> State
-    ensures { result ≡ spec.state stack level (Mode.Want slot) }
+fn wanting(around: Around, slot: Slot) -> State
+    ensures { result ≡ spec.state around.stack around.level (Mode.Want slot) }
 {
-    State {
-        stack,
-        level,
-        mode: Mode::Want(slot),
-    }
+    state(around, Mode::Want(slot))
 }
 
 /// What AND joins is read.
@@ -78,7 +83,8 @@ fn after_conjunction(
     match class {
         Some(Class::Word(Word::Or)) => {
             let ands = none(alloc);
-            Ok(wanting(stack, Level { ors, ands }, Slot::First))
+            let level = Level { ors, ands };
+            Ok(wanting(Around { stack, level }, Slot::First))
         }
         _ => closed(alloc, stack, disjunction(ors), class),
     }
@@ -95,7 +101,10 @@ fn after_negation(
     ensures { Gives result (spec.after_negation stack ors all class) }
 {
     match class {
-        Some(Class::Word(Word::And)) => Ok(wanting(stack, Level { ors, ands: all }, Slot::First)),
+        Some(Class::Word(Word::And)) => {
+            let level = Level { ors, ands: all };
+            Ok(wanting(Around { stack, level }, Slot::First))
+        }
         _ => {
             let ors = pushed(ors, conjunction(all))?;
             after_conjunction(alloc, stack, ors, class)
@@ -151,14 +160,13 @@ fn negated(
 
 pub fn after_test(
     alloc: Global,
-    stack: Stack<Frame>,
-    level: Level,
+    around: Around,
     e: Expr,
     class: Option<Class>,
 ) -> Result<State, Stop>
-    ensures { Gives result (spec.after_test stack level e class) }
+    ensures { Gives result (spec.after_test around.stack around.level e class) }
 {
-    let Below { stack, level, tree } = negated(alloc, stack, level, e)?;
+    let Below { stack, level, tree } = negated(alloc, around.stack, around.level, e)?;
     let Level { ors, ands } = level;
     let all = pushed(ands, tree)?;
     after_negation(alloc, stack, ors, all, class)
@@ -166,111 +174,88 @@ pub fn after_test(
 
 pub fn after_related(
     alloc: Global,
-    stack: Stack<Frame>,
-    level: Level,
+    around: Around,
     r: Expr,
     class: Option<Class>,
 ) -> Result<State, Stop>
-    ensures { Gives result (spec.after_related stack level r class) }
+    ensures { Gives result (spec.after_related around.stack around.level r class) }
 {
     match class {
-        Some(Class::Word(Word::Is)) => Ok(State {
-            stack,
-            level,
-            mode: Mode::Is(r),
-        }),
-        _ => after_test(alloc, stack, level, r, class),
+        Some(Class::Word(Word::Is)) => Ok(state(around, Mode::Is(r))),
+        _ => after_test(alloc, around, r, class),
     }
 }
 
 pub fn after_operand(
     alloc: Global,
-    stack: Stack<Frame>,
-    level: Level,
+    around: Around,
     a: Expr,
     class: Option<Class>,
 ) -> Result<State, Stop>
-    ensures { Gives result (spec.after_operand stack level a class) }
+    ensures { Gives result (spec.after_operand around.stack around.level a class) }
 {
     let mode = match class {
         Some(Class::Compared(op)) => Mode::Want(Slot::Right(op, a)),
         Some(Class::Word(Word::In)) => Mode::In(false, a),
         Some(Class::Word(Word::Not)) => Mode::NotIn(a),
-        _ => return after_related(alloc, stack, level, a, class),
+        _ => return after_related(alloc, around, a, class),
     };
-    Ok(State { stack, level, mode })
+    Ok(state(around, mode))
 }
 
 pub fn after_item(
     alloc: Global,
-    stack: Stack<Frame>,
-    level: Level,
+    around: Around,
     negated: bool,
     a: Expr,
     items: List<Expr>,
     class: Option<Class>,
 ) -> Result<State, Stop>
-    ensures { Gives result (spec.after_item stack level negated a items class) }
+    ensures { Gives result (spec.after_item around.stack around.level negated a items class) }
 {
     let mode = match class {
         Some(Class::Sign(Sign::Comma)) => Mode::Want(Slot::Item(negated, a, items)),
         Some(Class::Sign(Sign::Close)) => Mode::Related(one_of(alloc, negated, a, items)?),
         _ => return Err(Stop::Bad),
     };
-    Ok(State { stack, level, mode })
+    Ok(state(around, mode))
 }
 
 /// An operand is read, which ends before the token.
 pub fn over(
     alloc: Global,
-    stack: Stack<Frame>,
-    level: Level,
+    around: Around,
     slot: Slot,
     v: Expr,
     class: Option<Class>,
 ) -> Result<State, Stop>
-    ensures { Gives result (spec.over stack level slot v class) }
+    ensures { Gives result (spec.over around.stack around.level slot v class) }
 {
     match slot {
-        Slot::First => after_operand(alloc, stack, level, v, class),
+        Slot::First => after_operand(alloc, around, v, class),
         Slot::Right(op, a) => {
             let related = compared(alloc, op, a, v)?;
-            after_related(alloc, stack, level, related, class)
+            after_related(alloc, around, related, class)
         }
         Slot::Item(negated, a, items) => {
             let items = pushed(items, v)?;
-            after_item(alloc, stack, level, negated, a, items, class)
+            after_item(alloc, around, negated, a, items, class)
         }
-    }
-}
-
-pub fn tested_of(class: Option<Class>) -> Option<Tested>
-    ensures { result ≡ spec.tested_of class }
-{
-    match class {
-        Some(Class::Word(Word::Null)) => Some(Tested::Null),
-        Some(Class::Word(Word::True)) => Some(Tested::True),
-        Some(Class::Word(Word::False)) => Some(Tested::False),
-        Some(Class::Word(Word::Unknown)) => Some(Tested::Unknown),
-        _ => None,
     }
 }
 
 pub fn tests(
     alloc: Global,
-    stack: Stack<Frame>,
-    level: Level,
+    around: Around,
     negated: bool,
     a: Expr,
     class: Option<Class>,
 ) -> Result<State, Stop>
-    ensures { Gives result (spec.tests stack level negated a (spec.tested_of class)) }
+    ensures { Gives result
+        (spec.tests around.stack around.level negated a (spec.tested_of class)) }
 {
     match tested_of(class) {
         None => Err(Stop::Bad),
-        Some(tested) => {
-            let mode = Mode::Tested(is(alloc, negated, tested, a)?);
-            Ok(State { stack, level, mode })
-        }
+        Some(tested) => Ok(state(around, Mode::Tested(is(alloc, negated, tested, a)?))),
     }
 }

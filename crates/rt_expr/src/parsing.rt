@@ -1,16 +1,15 @@
-ghost use Rattle.std.specs.Prelude.{◌≡◌, ℕ, ◌+◌, ◌-◌, ◌≤◌, All, IfOk, length, drop, take};
-ghost use Rattle.std.specs.List.{list_any};
-ghost use Rattle.rt_sql.specs.Lexeme.{IsTokenOf, lexeme_of, lexemes};
+ghost use Rattle.std.specs.Prelude.{◌≡◌, ℕ, ◌+◌, ◌-◌, ◌≤◌, All, length, drop, take};
+ghost use Rattle.rt_sql.specs.Lexeme.{IsTokenOf, lexemes};
 ghost use Rattle.rt_policy.specs.Parse.{Parses, Reads, Fails};
 ghost use Rattle.rt_policy.specs.declared.expr.Expr.{Expr as Written};
-ghost use Rattle.rt_expr.specs.Long.{is_long_token};
 ghost use Rattle.rt_expr.specs.Tells.{Tells, Blames, Answers, Deep, Shallow};
 
 use crate::building::{Halt, built};
-use crate::measuring::{Halted, measured};
+use rt_lexeme::any_long;
 use rt_policy::{Expr, ExprFault};
+use rt_sketch::{Halted, measured};
 use rt_sql::Token;
-use std::alloc::{AllocError, Global};
+use std::alloc::Global;
 
 /// The tokens from one place on.
 fn behind(tokens: &[Token], from: usize) -> &[Token]
@@ -28,33 +27,8 @@ fn before(tokens: &[Token], to: usize) -> &[Token]
     &tokens[..to]
 }
 
-/// Whether the token keeps a name of more than 63 bytes.
-fn is_long(alloc: Global, text: &str, token: Token) -> Result<bool, AllocError>
-    requires { IsTokenOf text.now token }
-    ensures { IfOk result (λ b. b ≡ is_long_token (lexeme_of text.now token)) }
-{
-    if token.may_name() {
-        Ok(token.name(alloc, text)?.len() > 63)
-    } else {
-        Ok(false)
-    }
-}
-
-#[tactic(auto, using(crate::proofs::Tokens::any_here, crate::proofs::Tokens::any_later, crate::proofs::Tokens::any_none,))]
-fn any_long(alloc: Global, text: &str, tokens: &[Token]) -> Result<bool, AllocError>
-    requires { All (IsTokenOf text.now) tokens.now }
-    ensures { IfOk result (λ b. b ≡ list_any is_long_token (lexemes text.now tokens.now)) }
-{
-    for token in tokens {
-        if is_long(alloc, text, *token)? {
-            return Ok(true);
-        }
-    }
-    Ok(false)
-}
-
 /// The fault of an expression that is too deep and ends before the token of this number.
-#[tactic(auto, using(crate::proofs::Answered::front_of_text, crate::proofs::Answered::deep_answer))]
+#[tactic(auto, using(crate::proofs::Answered::front_of_text))]
 fn too_deep(
     alloc: Global,
     text: &str,
@@ -126,7 +100,7 @@ fn shifted(tokens: &[Token], from: usize, n: usize) -> usize
     from + n
 }
 
-#[tactic(auto, using(crate::proofs::Answered::found_room, crate::proofs::Answered::bad_room, crate::proofs::Answered::deep_room, crate::proofs::Answered::found_at, crate::proofs::Answered::bad_at, crate::proofs::Answered::deep_at,))]
+#[tactic(auto, using(crate::proofs::Answered::found_room, crate::proofs::Answered::bad_room, crate::proofs::Answered::deep_room,))]
 fn placed(
     alloc: Global,
     text: &str,
@@ -152,8 +126,8 @@ fn placed(
 
 /// Reads the expression that the tokens of a text begin from one place on, a number of tokens, and
 /// answers it with the place behind it. `BadExpr` is the first token that can't go on, and
-/// `TooDeep` an expression of a depth over 32, whose end is told, and whether a name in it is longer
-/// than 63 bytes. Any depth takes a few bytes a token and no more of the stack.
+/// `TooDeep` an expression of a depth over 32, whose end is told, and whether a name in it is
+/// longer than 63 bytes. Any depth takes a few bytes a token and no more of the stack.
 #[tactic(auto, using(crate::proofs::Parsed::only, crate::proofs::Parsed::fails))]
 pub fn parse(
     alloc: Global,

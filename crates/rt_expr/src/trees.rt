@@ -1,6 +1,8 @@
-ghost use Rattle.std.specs.Prelude.{◌≡◌, ◌∷◌, ◌++◌, [], IfOk};
+ghost use Rattle.std.specs.Prelude.{◌≡◌, ◌∷◌, ◌++◌, [], Some, IfOk};
 ghost use Rattle.rt_policy.specs.Grammar as grammar;
+ghost use Rattle.rt_policy.specs.Parts as parts;
 
+use rt_policy::part::Source;
 use rt_policy::{Comparison, Expr, Tested};
 use rt_value::List;
 use sqlite_items::Boxed;
@@ -51,6 +53,26 @@ pub fn group(alloc: Global, a: Expr) -> Result<Expr, AllocError>
     ensures { IfOk result (λ e. e ≡ Expr.Group a) }
 {
     Ok(Expr::Group(Boxed::new(alloc, a)?))
+}
+
+/// An EXISTS on a source with its WHERE.
+pub fn exists_where(alloc: Global, source: Source, condition: Expr) -> Result<Expr, AllocError>
+    ensures { IfOk result (λ e. e ≡ parts.exists_of source (Some condition)) }
+{
+    let condition = Boxed::new(alloc, condition)?;
+    let Source {
+        selected,
+        schema,
+        table,
+        alias,
+    } = source;
+    Ok(Expr::Exists {
+        selected,
+        schema,
+        table,
+        alias,
+        condition: Some(condition),
+    })
 }
 
 /// The list with one element more at its end.

@@ -1,0 +1,18 @@
+use Rattle.std.proofs.Common.{sym, ◌∙◌, subst, Option}
+use Rattle.rt_policy.specs.declared.words.Class.{Class}
+use Rattle.rt_lexeme.specs.Look.{lexeme_in}
+use Rattle.rt_sketch.specs.Sketched.{Draws}
+use Rattle.rt_sketch.specs.Sketch as spec
+use Rattle.rt_sketch.proofs.Plain.{draw_plain}
+use Rattle.rt_sketch.proofs.recognizing.want.Goals as goal
+
+pub returns-in-None : goal.returns-in-None
+returns-in-None c =
+    subst (λ (o : Option Class). Draws c.want_marked.result
+    (spec.want c.args.around c.args.place o (lexeme_in c.args.text.now c.args.look)))
+    (sym c.in-None.is) (c.want_marked.ensures (lexeme_in c.args.text.now c.args.look))
+
+pub returns-then-is_plain : goal.returns-then-is_plain
+returns-then-is_plain c =
+    draw_plain c.args.around c.args.place c.args.look.class c.in-Some.class (lexeme_in c.args.text.now c.args.look)
+    c.want_plain.result c.in-Some.is (sym c.is_plain.ensures ∙ c.if-is_plain.true) c.want_plain.ensures

@@ -1,0 +1,4 @@
+pub mod Heights
+pub mod Recognized
+pub mod Sketch
+pub mod Sketched
