@@ -13,9 +13,10 @@ use Rattle.rt_policy.specs.Parse.{Parses, Reads, Fails}
 use Rattle.rt_policy.specs.Sizes.{enclosing, is_shallow}
 use Rattle.rt_policy.specs.declared.expr.Expr.{Expr}
 use Rattle.rt_policy.specs.declared.fault.ExprFault.{ExprFault}
-use Rattle.rt_policy.specs.declared.fault.ExprFault.TheVariants.{BadExpr, TooDeep}
+use Rattle.rt_policy.specs.declared.fault.ExprFault.TheVariants.{NoMemory, BadExpr, TooDeep, UnknownName, BadType}
 use Rattle.rt_policy.proofs.Exclusive.{one_end}
 use Rattle.rt_sketch.specs.Recognized.{EndsAt}
+use Rattle.rt_tree.specs.Answers.{Built}
 use Rattle.rt_lexeme.specs.Long.{is_long_token}
 use Rattle.rt_expr.specs.Tells.{Answers, Deep, Shallow}
 use Rattle.rt_expr.proofs.LongExpr.{long_names}
@@ -46,12 +47,17 @@ pub ends_within : (text : List ℕ) (ts : List Token) (at h : ℕ) → EndsAt (l
 ends_within text ts at h f = let w = f.ends.stuck.within in omega (arith, w, length-map ts (lexeme_of text))
 
 -- the expression that is read whole is the one that was measured
-pub built_shallow : (xs : List Lexeme) (e : Expr) (to : ℕ) → Shallow xs → Ends Written xs to e
-    → Ends Written xs to e × (is_shallow e ≡ true)
-built_shallow xs e to s h =
+pub built_shallow : (xs : List Lexeme) (r : Result (Expr × ℕ) ExprFault) → Shallow xs → Built xs r → Answers xs r
+built_shallow xs (Ok found) s h =
     let there = reads_from xs 0 s.to s.tree s.ends in
-    let same = one_end xs 0 s.tree e (0 + s.to) (0 + to) there (reads_from xs 0 to e h) in
+    let here = reads_from xs 0 found.1 found.0 h in
+    let same = one_end xs 0 s.tree found.0 (0 + s.to) (0 + found.1) there here in
     (h, subst (λ (v : Expr). is_shallow v ≡ true) same.0 s.shallow)
+built_shallow xs (Err (BadExpr at)) s h = h
+built_shallow xs (Err NoMemory) s h = tt
+built_shallow xs (Err (TooDeep to long)) s h = absurd h
+built_shallow xs (Err UnknownName) s h = absurd h
+built_shallow xs (Err BadType) s h = absurd h
 
 pub front_of_text : (text : List ℕ) (ts front : List Token) (to : ℕ) → front ≡ take to ts
     → All (IsTokenOf text) ts → All (IsTokenOf text) front

@@ -4,11 +4,11 @@ ghost use Rattle.rt_policy.specs.Parse.{Parses, Reads, Fails};
 ghost use Rattle.rt_policy.specs.declared.expr.Expr.{Expr as Written};
 ghost use Rattle.rt_expr.specs.Tells.{Tells, Blames, Answers, Deep, Shallow};
 
-use crate::building::{Halt, built};
 use rt_lexeme::any_long;
 use rt_policy::{Expr, ExprFault};
 use rt_sketch::{Halted, measured};
 use rt_sql::Token;
+use rt_tree::built;
 use std::alloc::Global;
 
 /// The tokens from one place on.
@@ -51,11 +51,7 @@ fn shallow(alloc: Global, text: &str, tokens: &[Token]) -> Result<(Expr, usize),
     requires shallow { Shallow (lexemes text.now tokens.now) }
     ensures { Answers (lexemes text.now tokens.now) result }
 {
-    match built(alloc, text, tokens) {
-        Ok((tree, to)) => Ok((tree, to)),
-        Err(Halt::Bad(at)) => Err(ExprFault::BadExpr { at }),
-        Err(_) => Err(ExprFault::NoMemory),
-    }
+    built(alloc, text, tokens)
 }
 
 /// The answer to tokens from their first on.

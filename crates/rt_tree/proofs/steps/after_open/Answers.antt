@@ -1,7 +1,7 @@
 use Rattle.std.proofs.Common.{sym, ◌∙◌}
 use Rattle.rt_lexeme.specs.Look.{lexeme_in}
-use Rattle.rt_expr.proofs.Opens.{opens_group}
-use Rattle.rt_expr.proofs.steps.after_open.Goals as goal
+use Rattle.rt_tree.proofs.Opens.{opens_group}
+use Rattle.rt_tree.proofs.steps.after_open.Goals as goal
 
 pub returns-in_ok-stack : goal.returns-in_ok-stack
 returns-in_ok-stack c =

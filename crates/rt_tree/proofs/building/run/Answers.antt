@@ -1,8 +1,8 @@
 use Rattle.rt_sql.specs.Lexeme.{lexemes}
 use Rattle.rt_policy.proofs.One.{element_goes}
 use Rattle.rt_lexeme.proofs.Tokens.{lexeme_there}
-use Rattle.rt_expr.proofs.Halts.{ran_err}
-use Rattle.rt_expr.proofs.building.run.Goals as goal
+use Rattle.rt_tree.proofs.Halts.{ran_err}
+use Rattle.rt_tree.proofs.building.run.Goals as goal
 
 pub returns-in-Err : goal.returns-in-Err
 returns-in-Err c =

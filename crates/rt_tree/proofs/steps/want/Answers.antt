@@ -3,8 +3,8 @@ use Rattle.rt_policy.specs.declared.words.Class.{Class}
 use Rattle.rt_policy.specs.Machine.{Gives}
 use Rattle.rt_policy.specs.Machine as spec
 use Rattle.rt_lexeme.specs.Look.{lexeme_in}
-use Rattle.rt_expr.proofs.Plain.{want_plain}
-use Rattle.rt_expr.proofs.steps.want.Goals as goal
+use Rattle.rt_tree.proofs.Plain.{want_plain}
+use Rattle.rt_tree.proofs.steps.want.Goals as goal
 
 pub returns-in-None : goal.returns-in-None
 returns-in-None c =

@@ -1,7 +1,7 @@
 use Rattle.std.proofs.Common.{ap}
 use Rattle.rt_value.specs.Places.{ended}
-use Rattle.rt_expr.proofs.Halts.{whole_ends, whole_breaks}
-use Rattle.rt_expr.proofs.building.finished.Goals as goal
+use Rattle.rt_tree.proofs.Halts.{whole_ends, whole_breaks}
+use Rattle.rt_tree.proofs.building.finished.Goals as goal
 
 pub returns-in-Err-End : goal.returns-in-Err-End
 returns-in-Err-End c =

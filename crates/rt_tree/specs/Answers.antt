@@ -6,8 +6,10 @@ use Rattle.rt_policy.specs.Grammar.{Written}
 use Rattle.rt_policy.specs.Machine.{To, step, start}
 use Rattle.rt_policy.specs.declared.building.State.{State}
 use Rattle.rt_policy.specs.declared.expr.Expr.{Expr}
-use Rattle.rt_expr.specs.declared.building.Halt.{Halt}
-use Rattle.rt_expr.specs.declared.building.Halt.TheVariants as halt
+use Rattle.rt_policy.specs.declared.fault.ExprFault.{ExprFault}
+use Rattle.rt_policy.specs.declared.fault.ExprFault.TheVariants.{NoMemory, BadExpr, TooDeep, UnknownName, BadType}
+use Rattle.rt_tree.specs.declared.building.Halt.{Halt}
+use Rattle.rt_tree.specs.declared.building.Halt.TheVariants as halt
 
 -- the answer to the token of this number
 abbrev pub Advances : ℕ → Result State Halt → To → Type 0
@@ -24,8 +26,10 @@ Ran xs (Err (halt.Bad at)) = Breaks Written xs at
 Ran xs (Err halt.NoMemory) = Unit {0}
 
 -- the tree and its end, or the place of the fault
-abbrev pub Built : List Lexeme → Result (Expr × ℕ) Halt → Type 0
+abbrev pub Built : List Lexeme → Result (Expr × ℕ) ExprFault → Type 0
 Built xs (Ok r) = Ends Written xs r.1 r.0
-Built xs (Err (halt.End e at)) = ⊥
-Built xs (Err (halt.Bad at)) = Breaks Written xs at
-Built xs (Err halt.NoMemory) = Unit {0}
+Built xs (Err (BadExpr at)) = Breaks Written xs at
+Built xs (Err NoMemory) = Unit {0}
+Built xs (Err (TooDeep to long)) = ⊥
+Built xs (Err UnknownName) = ⊥
+Built xs (Err BadType) = ⊥

@@ -2,14 +2,14 @@ ghost use Rattle.std.specs.Prelude.{◌≡◌, All, Some};
 ghost use Rattle.rt_value.specs.Places.{run as run_of};
 ghost use Rattle.rt_sql.specs.Lexeme.{IsTokenOf, lexeme_of, lexemes};
 ghost use Rattle.rt_policy.specs.Machine as spec;
-ghost use Rattle.rt_expr.specs.Answers.{Advances, Ran, Built};
+ghost use Rattle.rt_tree.specs.Answers.{Advances, Ran, Built};
 
 use crate::steps::{start, step};
 use rt_lexeme::{at_end, at_token};
-use rt_policy::Expr;
 use rt_policy::building::{Frame, Level, Mode, Slot, State, Stop};
 use rt_policy::part::Part;
 use rt_policy::stack::Stack;
+use rt_policy::{Expr, ExprFault};
 use rt_sql::Token;
 use std::alloc::Global;
 
@@ -89,31 +89,33 @@ fn finished(
     text: &str,
     state: State,
     tokens: &[Token],
-) -> Result<(Expr, usize), Halt>
+) -> Result<(Expr, usize), ExprFault>
     requires { run_of spec.step (lexemes text.now tokens.now) spec.start ≡ Some state }
     ensures { Built (lexemes text.now tokens.now) result }
 {
     match step(alloc, text, state, at_end(text)) {
         Err(Stop::End(tree)) => Ok((tree, tokens.len())),
-        Err(Stop::NoMemory) => Err(Halt::NoMemory),
+        Err(Stop::NoMemory) => Err(ExprFault::NoMemory),
         Ok(state) => {
             discard(state);
-            Err(Halt::Bad(tokens.len()))
+            Err(ExprFault::BadExpr { at: tokens.len() })
         }
-        Err(Stop::Bad) => Err(Halt::Bad(tokens.len())),
+        Err(Stop::Bad) => Err(ExprFault::BadExpr { at: tokens.len() }),
     }
 }
 
-/// The expression that tokens begin, and its end.
+/// The expression that the tokens of a text begin, and the number of the token that it ends before.
+/// `BadExpr` is the first token that can't go on, and `NoMemory` the only other fault. The tree may
+/// be of any depth, and so take as much of the stack when it is dropped.
 #[tactic(none)]
-pub fn built(alloc: Global, text: &str, tokens: &[Token]) -> Result<(Expr, usize), Halt>
+pub fn built(alloc: Global, text: &str, tokens: &[Token]) -> Result<(Expr, usize), ExprFault>
     requires { All (IsTokenOf text.now) tokens.now }
     ensures { Built (lexemes text.now tokens.now) result }
 {
     match run(alloc, text, tokens) {
         Ok(state) => finished(alloc, text, state, tokens),
         Err(Halt::End(tree, n)) => Ok((tree, n)),
-        Err(Halt::Bad(n)) => Err(Halt::Bad(n)),
-        Err(Halt::NoMemory) => Err(Halt::NoMemory),
+        Err(Halt::Bad(n)) => Err(ExprFault::BadExpr { at: n }),
+        Err(Halt::NoMemory) => Err(ExprFault::NoMemory),
     }
 }

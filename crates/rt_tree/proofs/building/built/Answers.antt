@@ -1,4 +1,4 @@
-use Rattle.rt_expr.proofs.building.built.Goals as goal
+use Rattle.rt_tree.proofs.building.built.Goals as goal
 
 pub run-requires : goal.run-requires
 run-requires c = c.requires

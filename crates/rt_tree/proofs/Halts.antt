@@ -10,9 +10,9 @@ use Rattle.rt_policy.specs.Machine.{step, start}
 use Rattle.rt_policy.proofs.One.{element_ends, element_breaks, end_ends, end_breaks}
 use Rattle.rt_policy.specs.declared.building.State.{State}
 use Rattle.rt_policy.specs.declared.expr.Expr.{Expr}
-use Rattle.rt_expr.specs.Answers.{Advances, Ran}
-use Rattle.rt_expr.specs.declared.building.Halt.{Halt}
-use Rattle.rt_expr.specs.declared.building.Halt.TheVariants as halt
+use Rattle.rt_tree.specs.Answers.{Advances, Ran}
+use Rattle.rt_tree.specs.declared.building.Halt.{Halt}
+use Rattle.rt_tree.specs.declared.building.Halt.TheVariants as halt
 
 pub ran_err : (xs : List Lexeme) (n : ℕ) (s : State) (x : Lexeme) (h : Halt) → slice_get xs n ≡ Some x
     → run step (take n xs) start ≡ Some s → Advances n (Err h) (step s (Some x)) → Ran xs (Err h)

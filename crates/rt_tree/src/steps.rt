@@ -189,8 +189,11 @@ fn after_open(
         Ok(within(around, slot, selecting()))
     } else {
         let stack = around.stack.push(Frame::Group(around.level, slot))?;
-        let level = fresh(alloc);
-        want(alloc, text, Around { stack, level }, Slot::First, look)
+        let around = Around {
+            stack,
+            level: fresh(alloc),
+        };
+        want(alloc, text, around, Slot::First, look)
     }
 }
 

@@ -1,0 +1,4 @@
+pub mod Halts
+pub mod Inside
+pub mod Opens
+pub mod Plain
