@@ -1,2 +1,0 @@
-pub mod Inherited
-pub mod Known
